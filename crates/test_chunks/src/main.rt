@@ -26,7 +26,7 @@ use std::alloc::{AllocError, Global};
 use std::io;
 use std::marker::Brand;
 use std::sync::ledger::{Blank, Ledger};
-use trial::Trials;
+use trial::BothFormats;
 use ts_sample::Steps;
 
 fn main(rt: HostRuntime) -> io::Result<()> {
@@ -52,7 +52,7 @@ fn answers<L: Ledger>(
     requires some { 0 < blank.parts }
 {
     let mut steps = Steps::<L>::new(blank);
-    let mut trials = Trials::new(alloc)?;
+    let mut trials = BothFormats::new(alloc)?;
     let mut answers = Vec::new(alloc);
     for line in lines {
         let answer = match trials.answer(line, &mut steps)? {

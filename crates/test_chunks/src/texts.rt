@@ -3,7 +3,7 @@ ghost use Rattle.std.specs.Prelude.{◌≤◌};
 
 use std::alloc::{AllocError, Global};
 use std::sync::ledger::Ledger;
-use ts_sample::{Chunk, Gathered, MAX_TIME, Sample, Steps, Units};
+use ts_sample::{Chunk, MAX_TIME, Sample, SampleCollector, Steps, Units};
 
 // Parses a sample, such as `1000:-3:1`.
 pub(crate) fn sample_of(text: &str) -> Option<Sample> {
@@ -40,7 +40,7 @@ pub(crate) fn between<C: Chunk, L: Ledger>(
     to: u64,
     steps: &mut Steps<L>,
 ) -> Result<Vec<Sample>, AllocError> {
-    let mut gathered = Gathered::with_room(alloc, chunk.len())?;
+    let mut gathered = SampleCollector::with_reserved(alloc, chunk.len())?;
     chunk.scan(from, to, &mut gathered, steps);
     Ok(gathered.into_samples())
 }

@@ -12,16 +12,16 @@ use ts_chunk_plain::PlainChunk;
 use ts_sample::{Chunk, Sample, Steps};
 
 #[derive(Drop)]
-pub(crate) struct Trial<C: Chunk> {
+pub(crate) struct ChunkUnderTest<C: Chunk> {
     alloc: Global,
     chunk: C,
 }
 
-impl<C: Chunk> Trial<C> {
+impl<C: Chunk> ChunkUnderTest<C> {
     // Starts with an empty chunk of the smallest limit.
     pub(crate) fn new(alloc: Global) -> Result<Self, AllocError> {
         let chunk = C::new(alloc, 48)?;
-        Ok(Trial { alloc, chunk })
+        Ok(ChunkUnderTest { alloc, chunk })
     }
 
     // Runs the command in a line. Returns `None` if it is not one.
@@ -130,16 +130,16 @@ fn is_past<C: Chunk>(chunk: &C, time: u64) -> bool
 }
 
 #[derive(Drop)]
-pub(crate) struct Trials {
+pub(crate) struct BothFormats {
     alloc: Global,
-    packed: Trial<PackedChunk>,
-    plain: Trial<PlainChunk>,
+    packed: ChunkUnderTest<PackedChunk>,
+    plain: ChunkUnderTest<PlainChunk>,
 }
 
-impl Trials {
-    pub(crate) fn new(alloc: Global) -> Result<Trials, AllocError> {
-        let (packed, plain) = (Trial::new(alloc)?, Trial::new(alloc)?);
-        Ok(Trials {
+impl BothFormats {
+    pub(crate) fn new(alloc: Global) -> Result<BothFormats, AllocError> {
+        let (packed, plain) = (ChunkUnderTest::new(alloc)?, ChunkUnderTest::new(alloc)?);
+        Ok(BothFormats {
             alloc,
             packed,
             plain,

@@ -114,7 +114,7 @@ impl NextCall {
 
     // Whether the listener's next call has this result.
     pub(crate) fn is_next(self, net: &mut MemListener) -> bool
-        requires { net.old.is_out ≡ false }
+        requires { net.old.has_open_link ≡ false }
     {
         match self {
             NextCall::Unmade => true,
@@ -125,7 +125,7 @@ impl NextCall {
 }
 
 // A connection that sends nothing.
-pub(crate) fn silent(alloc: Global) -> Ends<MemSource, MemSink> {
+pub(crate) fn idle_connection(alloc: Global) -> Ends<MemSource, MemSink> {
     Ends {
         input: MemSource::new(Vec::new(alloc), 1, Vec::new(alloc)),
         out: MemSink::new(alloc, 1, Vec::new(alloc)),

@@ -33,7 +33,7 @@ impl Words<'_> {
 
 // Appends a text once for each number. `#` is the number, and `@` the number as far from the end as this one is from
 // the beginning.
-fn push_parts(text: &str, numbers: Numbers, list: &mut String) -> Result<(), AllocError> {
+fn push_repeated(text: &str, numbers: Numbers, list: &mut String) -> Result<(), AllocError> {
     let there = numbers.first..numbers.end;
     let back = (numbers.first..numbers.end).rev();
     for (number, other) in there.zip(back) {
@@ -49,7 +49,11 @@ fn push_parts(text: &str, numbers: Numbers, list: &mut String) -> Result<(), All
 }
 
 // A text in which the part in braces, if any, is repeated for each number.
-pub(crate) fn unfold(alloc: Global, text: &str, numbers: Numbers) -> Result<String, AllocError> {
+pub(crate) fn expand_braces(
+    alloc: Global,
+    text: &str,
+    numbers: Numbers,
+) -> Result<String, AllocError> {
     let Some((head, rest)) = text.split_once('{') else {
         return String::from_str(alloc, text);
     };
@@ -57,7 +61,7 @@ pub(crate) fn unfold(alloc: Global, text: &str, numbers: Numbers) -> Result<Stri
         return String::from_str(alloc, text);
     };
     let mut list = String::from_str(alloc, head)?;
-    push_parts(part, numbers, &mut list)?;
+    push_repeated(part, numbers, &mut list)?;
     list.push_str(tail)?;
     Ok(list)
 }

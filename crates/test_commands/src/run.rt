@@ -1,5 +1,5 @@
 // Runs the program, or calls `pipe`, over devices in memory.
-use crate::expected::{End, silent};
+use crate::expected::{End, idle_connection};
 use crate::setting::Setting;
 use crate::stream::Stream;
 use crate::texts::Exchange;
@@ -68,7 +68,7 @@ fn is_answered_over<S: Source + Drop>(
     let failing = Vec::from_slice(alloc, &setting.failing_calls)?;
     let mut coming = others;
     if setting.next_call.is_made() {
-        coming.push(silent(alloc))?;
+        coming.push(idle_connection(alloc))?;
     }
     let mut net = MemListener::new(alloc, coming, failing)?;
     let mut log = setting.journal.log()?;

@@ -1,5 +1,5 @@
 // A stream of a talk, which is standard input and output or a connection, and its lines.
-use crate::patterns::{Round, Words, unfold};
+use crate::patterns::{Round, Words, expand_braces};
 use crate::setting::take_list;
 use crate::texts::Exchange;
 use itoa::Buffer;
@@ -125,8 +125,8 @@ impl Line {
             Form::Each => return self.add_each(alloc, round, exchange),
             Form::Bytes => return exchange.push_bytes(&self.command, &self.reply),
         }
-        let command = unfold(alloc, &self.command, round.numbers)?;
-        let reply = unfold(alloc, &self.reply, round.numbers)?;
+        let command = expand_braces(alloc, &self.command, round.numbers)?;
+        let reply = expand_braces(alloc, &self.reply, round.numbers)?;
         let command = with_word(alloc, &command, round.word)?;
         let reply = with_word(alloc, &reply, &bulk(alloc, round.word)?)?;
         exchange.push(&round.encoded(alloc, &command)?, &reply)

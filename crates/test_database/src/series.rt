@@ -39,7 +39,7 @@ fn ends(series: &Series) -> [u64; 9] {
     let mut from = 0;
     for end in &mut ends {
         if from <= 1000 {
-            *end = series.time_for(from, 1000, 1);
+            *end = series.end_for_count(from, 1000, 1);
             from = end.saturating_add(1);
         }
     }
@@ -143,11 +143,11 @@ fn times<L: Ledger>(alloc: Global, blank: Blank) -> [u64; 5]
     let mut steps = Steps::<L>::new(blank);
     let series = nine(alloc, 88, &mut steps);
     [
-        series.time_for(0, 1000, 1),
-        series.time_for(0, 1000, 4),
-        series.time_for(15, 1000, 1),
-        series.time_for(0, 20, 1),
-        series.time_for(0, 1000, 10),
+        series.end_for_count(0, 1000, 1),
+        series.end_for_count(0, 1000, 4),
+        series.end_for_count(15, 1000, 1),
+        series.end_for_count(0, 20, 1),
+        series.end_for_count(0, 1000, 10),
     ]
 }
 
@@ -166,11 +166,11 @@ fn begins<L: Ledger>(alloc: Global, blank: Blank) -> [u64; 5]
     let mut steps = Steps::<L>::new(blank);
     let series = nine(alloc, 88, &mut steps);
     [
-        series.time_from(0, 1000, 1),
-        series.time_from(0, 1000, 4),
-        series.time_from(0, 85, 1),
-        series.time_from(80, 1000, 1),
-        series.time_from(0, 1000, 10),
+        series.start_for_count(0, 1000, 1),
+        series.start_for_count(0, 1000, 4),
+        series.start_for_count(0, 85, 1),
+        series.start_for_count(80, 1000, 1),
+        series.start_for_count(0, 1000, 10),
     ]
 }
 

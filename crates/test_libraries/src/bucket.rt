@@ -5,7 +5,7 @@ use ts_sample::MAX_TIME;
 
 // The bucket of a time: its start and last time, the start of the next one, and its timestamps.
 #[derive(Clone, Copy, Debug, PartialEq)]
-struct Told {
+struct BucketFacts {
     start: u64,
     last: u64,
     next: Option<u64>,
@@ -14,12 +14,12 @@ struct Told {
     mid: u64,
 }
 
-fn bucket(align: u64, duration: u64, t: u64) -> Option<Told> {
+fn bucket(align: u64, duration: u64, t: u64) -> Option<BucketFacts> {
     let grid = Grid::new(align, duration)?;
     if t > MAX_TIME || grid.align() != align || grid.duration() != duration {
         return None;
     }
-    Some(Told {
+    Some(BucketFacts {
         start: grid.start_of(t),
         last: grid.last_of(t),
         next: grid.next_of(t),
@@ -29,9 +29,9 @@ fn bucket(align: u64, duration: u64, t: u64) -> Option<Told> {
     })
 }
 
-fn wanted(start: u64, last: u64, next: Option<u64>, high: u64, mid: u64) -> Option<Told> {
+fn wanted(start: u64, last: u64, next: Option<u64>, high: u64, mid: u64) -> Option<BucketFacts> {
     let low = start;
-    Some(Told {
+    Some(BucketFacts {
         start,
         last,
         next,

@@ -6,7 +6,7 @@ use ts_command::GroupBy;
 use ts_group::{Reduction, encode_groups, group};
 use ts_labels::{Labels, Show};
 use ts_multi::Member;
-use ts_range::{Keep, Row, Take};
+use ts_range::{FallibleRowSink, Row, RowSink};
 use ts_resp::{Out, Reply, Word, encode};
 use ts_sample::{Cell, Units};
 
@@ -101,6 +101,6 @@ fn a_row_is_lost(rt: HostRuntime) -> Result<(), AllocError> {
     reduction.lose();
     assert!(rt; reduction.is_lost());
     assert!(rt; reduction.is_full());
-    assert!(rt; Running::new().has_room());
+    assert!(rt; Running::new().has_capacity());
     Ok(())
 }

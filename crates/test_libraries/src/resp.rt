@@ -3,7 +3,8 @@ use std::cmp::Ordering;
 use std::collections::BTreeMap;
 use std::test::Fail;
 use ts_resp::{
-    Kind, Out, PAIR, Protocol, Reply, Word, close_array, encode, open_array, put_pair, size_of,
+    Kind, Out, PAIR_BYTES, Protocol, Reply, Word, close_array, encode, open_array, size_of,
+    write_pair,
 };
 use ts_sample::{Cell, Units};
 
@@ -116,8 +117,8 @@ fn texts_of_pairs(rt: HostRuntime) -> Result<(), Fail> {
     for (time, millionths, want) in pairs {
         let value = Units::new(millionths).ok_or("out of range")?;
         out.clear();
-        out.reserve(PAIR)?;
-        put_pair(time, Cell::Number(value), &mut out);
+        out.reserve(PAIR_BYTES)?;
+        write_pair(time, Cell::Number(value), &mut out);
         assert!(rt; out.bytes() == want);
     }
     Ok(())
@@ -127,9 +128,9 @@ fn texts_of_pairs(rt: HostRuntime) -> Result<(), Fail> {
 fn pairs_stand_behind_what_was_written(rt: HostRuntime) -> Result<(), Fail> {
     let mut out = Out::new(rt.alloc())?;
     open_array(&mut out);
-    put_pair(1_700_000_000_000, Cell::Nan, &mut out);
-    out.reserve(PAIR)?;
-    put_pair(7, Cell::Number(Units::ZERO), &mut out);
+    write_pair(1_700_000_000_000, Cell::Nan, &mut out);
+    out.reserve(PAIR_BYTES)?;
+    write_pair(7, Cell::Number(Units::ZERO), &mut out);
     close_array(2, &mut out);
     assert!(rt;
         out.bytes() == b"*2\r\n*2\r\n:1700000000000\r\n+NaN\r\n*2\r\n:7\r\n+0\r\n".as_slice()

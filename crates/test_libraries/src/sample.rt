@@ -5,7 +5,7 @@ use std::alloc::AllocError;
 use std::marker::Brand;
 use std::sync::ledger::{Blank, Ledger};
 use std::test::*;
-use ts_sample::{Cell, Gathered, MAX_TIME, Sample, Steps, Units, Visit};
+use ts_sample::{Cell, MAX_TIME, Sample, SampleCollector, Steps, Units, Visit};
 
 const BOUND: i128 = 1_000_000_000_000_000_000_000_000;
 
@@ -72,7 +72,7 @@ fn samples_are_gathered_in_their_order(rt: HostRuntime) -> Result<(), AllocError
         made: 0,
     };
     let second = Sample { time: 2, ..first };
-    let mut gathered = Gathered::with_room(rt.alloc(), 2)?;
+    let mut gathered = SampleCollector::with_reserved(rt.alloc(), 2)?;
     gathered.sample(&first);
     gathered.sample(&second);
     assert!(rt; gathered.into_samples().as_slice() == [first, second].as_slice());

@@ -9,7 +9,7 @@ mod texts;
 
 use std::alloc::{AllocError, Global};
 use std::io;
-use ts_command::{Addition, Command, CommandFault, read};
+use ts_command::{Command, CommandFault, SimpleAdd, read};
 use ts_resp::Word;
 
 fn main(rt: HostRuntime) -> io::Result<()> {
@@ -38,7 +38,7 @@ fn answer(alloc: Global, line: &str) -> Result<String, AllocError> {
 // The ON_DUPLICATE of a TS.ADD that can be parsed without copying.
 fn in_place(alloc: Global, request: &str) -> Result<String, AllocError> {
     let words = words(alloc, request)?;
-    match Addition::read(&words) {
+    match SimpleAdd::read(&words) {
         Some(addition) => {
             let on = addition.on;
             format!(in alloc; "ok in place, on {on:?}")

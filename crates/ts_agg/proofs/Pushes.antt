@@ -6,9 +6,9 @@ use mir.Syntax.{w128}
 use mir.Val.{SFits, to_z, of_z}
 use Rattle.ts_spec.specs.Sample.{Point}
 use Rattle.ts_spec.specs.Value.{bound}
-use Rattle.ts_spec.specs.Aggregate.{Summary, push, kept_unless_first}
+use Rattle.ts_spec.specs.Aggregate.{Summary, push, old_unless_first}
 use Rattle.ts_spec.proofs.Aggregates.{summary-push}
-use Rattle.ts_agg.specs.Running.{IsSmall, StandsFor}
+use Rattle.ts_agg.specs.Running.{IsSmall, Summarizes}
 use Rattle.ts_agg.proofs.Results.{sum_fits}
 
 -- a summary from its parts
@@ -25,10 +25,10 @@ same_summary r s count sum least greatest first last =
     ∙ ap (λ x. summary_of s.count s.sum s.least s.greatest x r.last) first
     ∙ ap (λ x. summary_of s.count s.sum s.least s.greatest s.first x) last
 
-kept_first : (n : ℕ) (old new : ℤ) → n ≡ 0 → kept_unless_first n old new ≡ new
-kept_first n old new none = ap (λ (k : ℕ). kept_unless_first k old new) none
+kept_first : (n : ℕ) (old new : ℤ) → n ≡ 0 → old_unless_first n old new ≡ new
+kept_first n old new none = ap (λ (k : ℕ). old_unless_first k old new) none
 
-kept_later : (n : ℕ) (old new : ℤ) → n ≢ 0 → kept_unless_first n old new ≡ old
+kept_later : (n : ℕ) (old new : ℤ) → n ≢ 0 → old_unless_first n old new ≡ old
 kept_later zero old new some = absurd (some refl)
 kept_later (suc n) old new some = refl
 
@@ -45,7 +45,7 @@ module _ (s : Summary) (p : Point) (sum : ℤ) (total : sum ≡ s.sum +ℤ p.val
       same_summary (summary_of (s.count + 1) sum least greatest s.first p.value) (push s p) refl total (lower ∙ sym (kept_later s.count _ p.value some)) (higher ∙ sym (kept_later s.count _ p.value some)) (sym (kept_later s.count _ p.value some)) refl
 
 -- a summary of a list becomes that of the list with the sample
-pub stands_pushed : (s t : Summary) (p : Point) → t ≡ push s p → (ps : List Point) → StandsFor s ps → StandsFor t (ps ++ p ∷ [])
+pub stands_pushed : (s t : Summary) (p : Point) → t ≡ push s p → (ps : List Point) → Summarizes s ps → Summarizes t (ps ++ p ∷ [])
 stands_pushed s t p is ps stands = is ∙ ap (λ (r : Summary). push r p) stands ∙ sym (summary-push ps p)
 
 -- the sum that the code computes

@@ -9,7 +9,7 @@ use Rattle.ts_spec.proofs.Aggregates.{summary-push, summary-count}
 use Rattle.ts_agg.specs.declared.tally.Tally.{Tally}
 use Rattle.ts_agg.specs.declared.tally.Tally.TheVariants.{Avg, Sum, Min, Max, Range, Count, First, Last}
 use Rattle.ts_agg.specs.Amounts.{added}
-use Rattle.ts_agg.specs.Tally.{tally_of, Tells}
+use Rattle.ts_agg.specs.Tally.{tally_of, IsTallyOf}
 
 -- the state after one more sample
 abbrev pub pushed : Tally → Point → Tally
@@ -48,7 +48,7 @@ kept-push a zero sum least greatest first last p some = absurd (omega arith)
 kept-push a (suc n) sum least greatest first last p some = kept-pushed a n sum least greatest first last p
 
 -- it describes the list with the sample
-pub one-more : (a : Aggregator) (t new : Tally) (p : Point) (ps : List Point) → new ≡ pushed t p → Tells a t ps → Tells a new (ps ++ p ∷ [])
+pub one-more : (a : Aggregator) (t new : Tally) (p : Point) (ps : List Point) → new ≡ pushed t p → IsTallyOf a t ps → IsTallyOf a new (ps ++ p ∷ [])
 one-more a t new p ps is told =
     let s = summary ps in
     let some : 0 < s.count = omega (arith, summary-count ps, told.some) in

@@ -5,8 +5,8 @@ use Rattle.ts_spec.specs.Value.{bound}
 use Rattle.ts_spec.specs.Aggregate.{Summary, summary}
 
 -- it is the summary of the list
-abbrev pub StandsFor : Summary → List Point → Type 0
-StandsFor s ps = s ≡ summary ps
+abbrev pub Summarizes : Summary → List Point → Type 0
+Summarizes s ps = s ≡ summary ps
 
 -- a count of at most 10^14, and a sum that this many values can have
 pub record IsSmall (count : ℕ) (sum : ℤ) : Type 0 where

@@ -19,7 +19,7 @@ tally_of agg.First s = First s.first
 tally_of agg.Last s = Last s.last
 
 -- it is the state of the aggregator over this non-empty list
-pub record Tells (a : Aggregator) (t : Tally) (ps : List Point) : Type 0 where
+pub record IsTallyOf (a : Aggregator) (t : Tally) (ps : List Point) : Type 0 where
   pub some : 0 < length ps
   pub kept : t ≡ tally_of a (summary ps)
 

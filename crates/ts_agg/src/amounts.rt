@@ -8,11 +8,11 @@ use ts_sample::Units;
 
 /// A count of samples, at most 10^14.
 #[derive(Clone, Copy, Debug, PartialEq, Eq)]
-pub struct Amount {
+pub struct SampleCount {
     count: u64,
 }
 
-impl Model for Amount {
+impl Model for SampleCount {
     ghost use Rattle.std.specs.Prelude.{ℕ, ◌≤◌, ◌^◌};
 
     ghost Value = { ℕ };
@@ -24,13 +24,13 @@ impl Model for Amount {
     ghost inverse = { λ n. record { count = n } };
 }
 
-impl Amount {
+impl SampleCount {
     /// Starts a count at one sample.
     #[inline]
-    pub fn one() -> Amount
+    pub fn one() -> SampleCount
         ensures { result ≡ 1 }
     {
-        Amount { count: 1 }
+        SampleCount { count: 1 }
     }
 
     /// Counts one more sample. The count must be below 10^14.

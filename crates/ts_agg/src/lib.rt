@@ -7,7 +7,7 @@ mod names;
 mod running;
 mod tally;
 
-pub use amounts::{Amount, Total};
+pub use amounts::{SampleCount, Total};
 pub use counted::Counted;
 pub use names::{AggFault, aggregator_of, is_name, name, named, read_aggregator, read_reducer};
 pub use running::Running;

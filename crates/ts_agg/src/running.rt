@@ -3,7 +3,7 @@ ghost use Rattle.std.specs.Prelude.{◌≡◌, ◌<◌, ◌^◌, ◌↔◌, List
 ghost use Rattle.std.specs.Prelude.{Some, IsNone};
 ghost use Rattle.ts_spec.specs.Sample.{Point};
 ghost use Rattle.ts_spec.specs.Aggregate.{aggregate, push, result_of};
-ghost use Rattle.ts_agg.specs.Running.{StandsFor};
+ghost use Rattle.ts_agg.specs.Running.{Summarizes};
 
 use std::marker::Model;
 use ts_decimal::{clamp, div_round};
@@ -54,7 +54,7 @@ impl Model for Running {
 impl Running {
     /// The summary of no samples.
     pub fn new() -> Running
-        ensures { StandsFor result [] }
+        ensures { Summarizes result [] }
     {
         Running {
             sum: 0,
@@ -67,7 +67,7 @@ impl Running {
     }
 
     /// Whether it can count one more sample.
-    pub fn has_room(&self) -> bool
+    pub fn has_capacity(&self) -> bool
         ensures { result ≡ nat_lt self.now.count (10 ^ 14) }
     {
         self.count < MOST
@@ -77,8 +77,8 @@ impl Running {
     pub fn push(&mut self, s: &Sample)
         requires { self.old.count < 10 ^ 14 }
         ensures pushed { self.new ≡ push self.old s.now }
-        ensures stands { (ps : List Point) → StandsFor self.old ps
-            → StandsFor self.new (ps ++ s.now ∷ []) }
+        ensures stands { (ps : List Point) → Summarizes self.old ps
+            → Summarizes self.new (ps ++ s.now ∷ []) }
     {
         let value = s.value;
         if self.count == 0 {
@@ -96,7 +96,7 @@ impl Running {
 
     /// Returns the result of an aggregator, or `None` if there are no samples.
     pub fn result(&self, agg: Aggregator) -> Option<Units>
-        ensures value { (ps : List Point) → StandsFor self.now ps → 0 < length ps
+        ensures value { (ps : List Point) → Summarizes self.now ps → 0 < length ps
             → result ≡ Some (aggregate agg ps) }
         ensures of_summary { 0 < self.now.count → result ≡ Some (result_of agg self.now) }
         ensures none { IsNone result ↔ (self.now.count ≡ 0) }

@@ -2,9 +2,9 @@
 ghost use Rattle.std.specs.Prelude.{◌≡◌, ◌<◌, ◌≤◌, ◌+◌, ◌^◌, List, [], ◌∷◌, ◌++◌};
 ghost use Rattle.ts_spec.specs.Sample.{Point};
 ghost use Rattle.ts_spec.specs.Aggregate.{aggregate};
-ghost use Rattle.ts_agg.specs.Tally.{Tells, counted};
+ghost use Rattle.ts_agg.specs.Tally.{IsTallyOf, counted};
 
-use crate::amounts::{Amount, Total};
+use crate::amounts::{SampleCount, Total};
 use crate::running::{greater, lesser};
 use ts_sample::{Sample, Units};
 use ts_spec::Aggregator;
@@ -20,7 +20,7 @@ pub enum Tally {
     Max(Units),
     /// The least and the greatest value.
     Range(Units, Units),
-    Count(Amount),
+    Count(SampleCount),
     First(Units),
     Last(Units),
 }
@@ -29,7 +29,7 @@ impl Tally {
     /// Starts an aggregator with one sample.
     #[inline]
     pub fn of(agg: Aggregator, first: &Sample) -> Tally
-        ensures tells { Tells agg result (first.now ∷ []) }
+        ensures tells { IsTallyOf agg result (first.now ∷ []) }
         ensures one { counted result ≤ 1 }
     {
         let value = first.value;
@@ -39,7 +39,7 @@ impl Tally {
             Aggregator::Min => Tally::Min(value),
             Aggregator::Max => Tally::Max(value),
             Aggregator::Range => Tally::Range(value, value),
-            Aggregator::Count => Tally::Count(Amount::one()),
+            Aggregator::Count => Tally::Count(SampleCount::one()),
             Aggregator::First => Tally::First(value),
             Aggregator::Last => Tally::Last(value),
         }
@@ -49,8 +49,8 @@ impl Tally {
     #[inline]
     pub fn push(&mut self, s: &Sample)
         requires { counted self.old < 10 ^ 14 }
-        ensures tells { (agg : Aggregator) (ps : List Point) → Tells agg self.old ps
-            → Tells agg self.new (ps ++ s.now ∷ []) }
+        ensures tells { (agg : Aggregator) (ps : List Point) → IsTallyOf agg self.old ps
+            → IsTallyOf agg self.new (ps ++ s.now ∷ []) }
         ensures few { counted self.new ≤ counted self.old + 1 }
     {
         match self {
@@ -70,7 +70,7 @@ impl Tally {
 
     /// Returns the result of the aggregator.
     pub fn value(&self) -> Units
-        ensures { (agg : Aggregator) (ps : List Point) → Tells agg self.now ps
+        ensures { (agg : Aggregator) (ps : List Point) → IsTallyOf agg self.now ps
             → result ≡ aggregate agg ps }
     {
         match self {

@@ -2,7 +2,7 @@
 use Rattle.std.proofs.Common.{◌≡◌, ℕ, ◌^◌, ◌≤◌, pos, ◌+ℤ◌, ◌-ℤ◌, unsigned_abs, List, ◌++◌, sym, ap, ◌∙◌, subst, append_assoc, arith}
 use Rattle.std.proofs.lemmas.Int.{ints}
 use Rattle.ts_spec.specs.Sample.{Point}
-use Rattle.ts_sample.specs.Sample.{IsFine}
+use Rattle.ts_sample.specs.Sample.{IsInBounds}
 use Rattle.ts_chunk_packed.specs.Laws.{IsKnown, time_most, value_most, made_most}
 use Rattle.ts_chunk_packed.specs.Packed.{State, gap, zigzag, unzigzag, number, number_of, coded, point_of, sample_of}
 use Rattle.ts_chunk_packed.specs.Reading.{Begins, Follows}
@@ -60,15 +60,15 @@ module _ (s : State) (p : Point) (rest : List ℕ) where
       (λ i. point_of s (time_read i).0 (value_read i).0 (made_read i).0) ∙ point_back in
       λ i. (point i, (made_read i).1)
 
-  pub time_begins : IsKnown s → IsFine p → s.before.time ≤ p.time → Begins (2 ^ 64) (coded s p ++ rest)
+  pub time_begins : IsKnown s → IsInBounds p → s.before.time ≤ p.time → Begins (2 ^ 64) (coded s p ++ rest)
   time_begins known fine later =
       record { value = time_number; rest = number value_number ++ (number made_number ++ rest); is = in_turn; below = omega (arith, time_most s p known fine later) }
 
-  pub value_begins : IsKnown s → IsFine p → Begins (2 ^ 120) (number_of (coded s p ++ rest)).1
+  pub value_begins : IsKnown s → IsInBounds p → Begins (2 ^ 120) (number_of (coded s p ++ rest)).1
   value_begins known fine =
       record { value = value_number; rest = number made_number ++ rest; is = ap (λ (r : ℕ × List ℕ). r.1) time_read; below = omega (arith, value_most s p known fine) }
 
-  pub made_begins : IsKnown s → IsFine p → Begins (2 ^ 64) (number_of (number_of (coded s p ++ rest)).1).1
+  pub made_begins : IsKnown s → IsInBounds p → Begins (2 ^ 64) (number_of (number_of (coded s p ++ rest)).1).1
   made_begins known fine =
       record { value = made_number; rest = rest; is = ap (λ (r : ℕ × List ℕ). r.1) value_read; below = omega (arith, made_most s p known fine) }
 

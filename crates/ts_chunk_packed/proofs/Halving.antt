@@ -9,7 +9,7 @@ use Rattle.ts_sample.proofs.Between.{filter-filter}
 use Rattle.ts_sample.proofs.Lists.{ascending-right}
 use Rattle.ts_sample.proofs.Parted.{filter_alike}
 use Rattle.ts_sample.proofs.Replacing.{none-before}
-use Rattle.ts_chunk_packed.specs.Rest.{AreBefore}
+use Rattle.ts_chunk_packed.specs.Decoder.{AreBefore}
 use Rattle.ts_chunk_packed.proofs.Resting.{parts_of}
 use Rattle.ts_chunk_packed.proofs.Starting.{all_before}
 

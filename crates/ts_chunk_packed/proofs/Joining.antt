@@ -7,13 +7,13 @@ use Rattle.ts_spec.specs.Sample.{Point, IsAscending, at_times, first_of, last_of
 use Rattle.ts_spec.proofs.Samples.{ascending-put}
 use Rattle.ts_sample.proofs.Between.{filter-filter}
 use Rattle.ts_sample.proofs.Parted.{filter_alike}
-use Rattle.ts_sample.specs.Chunk.{AreFine, IsChunk, IsPast}
+use Rattle.ts_sample.specs.Chunk.{AreInBounds, IsChunk, IsPast}
 use Rattle.ts_sample.proofs.Lists.{fine-append, ascending-left, past-before, fine-left}
 use Rattle.ts_sample.proofs.Fitting.{grows-on}
 use Rattle.ts_chunk_packed.specs.Chunk.{Samples, IsPacked}
 use Rattle.ts_chunk_packed.specs.Laws.{three_each, three_or_more, no_fewer}
 use Rattle.ts_chunk_packed.specs.Packed.{State, begin, packed_from, packed, state_from, samples_of}
-use Rattle.ts_chunk_packed.specs.Rest.{Left, IsRestOf}
+use Rattle.ts_chunk_packed.specs.Decoder.{UndecodedList, IsUndecodedOf}
 use Rattle.ts_chunk_packed.proofs.Appending.{packed-append, state-append, first-front, first-both}
 use Rattle.ts_chunk_packed.proofs.Listing.{samples_back, state_is}
 use Rattle.ts_chunk_packed.proofs.Pushing.{written_within}
@@ -139,11 +139,11 @@ module _ {limit capacity : ℕ} {written : List ℕ} {count step : ℕ} {begins 
   pub rises : IsAscending now.list
   rises = subst IsAscending list_is was.chunk.ascending
 
-  pub fine : AreFine now.list
-  fine = subst AreFine list_is was.chunk.fine
+  pub fine : AreInBounds now.list
+  fine = subst AreInBounds list_is was.chunk.fine
 
   -- the bytes of the rest, which is known after the samples before it
-  module _ {r : Left} (of : IsRestOf now.list r) {bytes : List ℕ} (bytes_are : bytes ≡ packed_from r.state r.list) where
+  module _ {r : UndecodedList} (of : IsUndecodedOf now.list r) {bytes : List ℕ} (bytes_are : bytes ≡ packed_from r.state r.list) where
     both : written ≡ packed of.front ++ bytes
     both =
         written_is ∙ ap packed of.whole ∙ packed-append begin of.front r.list
@@ -178,7 +178,7 @@ module _ {limit capacity : ℕ} {written : List ℕ} {count step : ℕ} {begins 
         record {
           bounds = was.chunk.bounds;
           ascending = ascending-left of.front r.list (subst IsAscending of.whole rises);
-          fine = fine-left of.front r.list (subst AreFine of.whole fine);
+          fine = fine-left of.front r.list (subst AreInBounds of.whole fine);
           fits = omega (arith, written_within was, ap length both, length-append (packed of.front) bytes);
         } in
         let last_front : last ≡ last_of of.front = last_is ∙ ap (λ (t : State). if t.begun then Some t.before else None) of.state ∙ last-known of.front in
@@ -194,7 +194,7 @@ module _ {limit capacity : ℕ} {written : List ℕ} {count step : ℕ} {begins 
         }
 
   -- samples past the others, as they are coded after them
-  module _ (some : 0 < length now.list) (r : Left) {bytes : List ℕ} (ascending : IsAscending (now.list ++ r.list)) (left_fine : AreFine r.list)
+  module _ (some : 0 < length now.list) (r : UndecodedList) {bytes : List ℕ} (ascending : IsAscending (now.list ++ r.list)) (left_fine : AreInBounds r.list)
       (bytes_are : bytes ≡ packed_from r.state r.list) where
     -- none
     pub same_list : length bytes ≡ 0 → now.list ≡ now.list ++ r.list

@@ -3,8 +3,8 @@ use Rattle.std.proofs.Common.{◌≡◌, ℕ, zero, suc, ◌≤◌, Bool, true, 
 use Rattle.std.specs.Prelude.{unwrap_or, is_some}
 use Rattle.std.proofs.lemmas.Int.{ints}
 use Rattle.ts_spec.specs.Sample.{Point, MAX_TIME, IsAfter, IsAscending, last_of, later_or}
-use Rattle.ts_sample.specs.Chunk.{AreFine, IsPast}
-use Rattle.ts_sample.specs.Sample.{IsFine}
+use Rattle.ts_sample.specs.Chunk.{AreInBounds, IsPast}
+use Rattle.ts_sample.specs.Sample.{IsInBounds}
 use Rattle.ts_chunk_packed.specs.Laws.{IsKnown, nothing_known}
 use Rattle.ts_chunk_packed.specs.Packed.{State, begin, gap, next, coded, packed_from, packed, state_from, sample_of, decoded_from, decoded, samples_of}
 use Rattle.ts_chunk_packed.specs.Reading.{StartsFrom}
@@ -61,7 +61,7 @@ pub starts_after : (t : ℕ) (ps : List Point) → IsAfter t ps → StartsFrom t
 starts_after t [] after = tt
 starts_after t (p ∷ ps) after = omega (arith, after.0)
 
-pub known_next : (s : State) (p : Point) → IsKnown s → IsFine p → s.before.time ≤ p.time → IsKnown (next s p)
+pub known_next : (s : State) (p : Point) → IsKnown s → IsInBounds p → s.before.time ≤ p.time → IsKnown (next s p)
 known_next s p known fine later = record { fine = fine; from = least s.begun; to = most s.begun }
   where
     least : (b : Bool) → pos 0 ≤ℤ (if b then gap s p.time else pos 0)
@@ -72,7 +72,7 @@ known_next s p known fine later = record { fine = fine; from = least s.begun; to
     most true = omega (arith, ints, fine.time)
     most false = omega (arith, ints)
 
-known_from : (s : State) (ps : List Point) → IsKnown s → AreFine ps → IsAscending ps → StartsFrom s.before.time ps → IsKnown (state_from s ps)
+known_from : (s : State) (ps : List Point) → IsKnown s → AreInBounds ps → IsAscending ps → StartsFrom s.before.time ps → IsKnown (state_from s ps)
 known_from s [] known fine rises starts = known
 known_from s (p ∷ ps) known fine rises starts =
     known_from (next s p) ps (known_next s p known fine.0 starts) fine.1 rises.1 (starts_after p.time ps rises.0)
@@ -81,7 +81,7 @@ pub starts_anywhere : (ps : List Point) → StartsFrom 0 ps
 starts_anywhere [] = tt
 starts_anywhere (p ∷ ps) = omega arith
 
-pub all_known : (ps : List Point) → AreFine ps → IsAscending ps → IsKnown (state_from begin ps)
+pub all_known : (ps : List Point) → AreInBounds ps → IsAscending ps → IsKnown (state_from begin ps)
 all_known ps fine rises = known_from begin ps nothing_known fine rises (starts_anywhere ps)
 
 -- ---- one more sample

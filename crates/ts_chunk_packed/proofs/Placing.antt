@@ -5,9 +5,9 @@ use Rattle.std.specs.Option.{option_copied}
 use Rattle.std.proofs.lemmas.Bool.{false≢true}
 use Rattle.std.proofs.lemmas.List.{drop_at, take-append-drop, length-drop}
 use Rattle.ts_spec.specs.Sample.{Point}
-use Rattle.ts_chunk_packed.specs.Marks.{Marked, IsMark, IsPlace, EndsAt, passed}
+use Rattle.ts_chunk_packed.specs.Marks.{MarkState, IsMark, IsPlace, EndsAt, passed}
 use Rattle.ts_chunk_packed.specs.Packed.{State, begin, state_from}
-use Rattle.ts_chunk_packed.specs.Rest.{Left, IsRestOf, IsRestPast}
+use Rattle.ts_chunk_packed.specs.Decoder.{UndecodedList, IsUndecodedOf, IsUndecodedPast}
 use Rattle.ts_chunk_packed.proofs.Listing.{begun_of}
 use Rattle.ts_chunk_packed.proofs.Marking.{mark_on, mark_at_end}
 use Rattle.ts_chunk_packed.proofs.Starting.{some_passed, rest_of}
@@ -17,9 +17,9 @@ none_yet : (ps : List Point) → (state_from begin ps).begun ≡ false → ps �
 none_yet [] is = refl
 none_yet (p ∷ ps) is = absurd (false≢true (sym is ∙ begun_of begin p ps))
 
-module _ (all : List Point) (r : Left) (of : IsRestOf all r) where
+module _ (all : List Point) (r : UndecodedList) (of : IsUndecodedOf all r) where
   -- a mark past all that is before what is left, or none where there is nothing before
-  pub placed : (o : Option Marked) (s : State) (at count : ℕ) → s ≡ r.state → EndsAt of.front at count
+  pub placed : (o : Option MarkState) (s : State) (at count : ℕ) → s ≡ r.state → EndsAt of.front at count
       → IfSome o (λ m. m.state ≡ s) → IfSome o (λ m. m.at ≡ at) → IfSome o (λ m. m.count ≡ count) → IfNone o (s.begun ≡ false) → IsPlace all o × (passed o + length r.list ≡ length all)
   placed None s at count known ends state byte many none =
       let front = none_yet of.front (ap (λ (t : State). t.begun) (sym (known ∙ of.state)) ∙ none) in
@@ -35,14 +35,14 @@ module _ (all : List Point) (r : Left) (of : IsRestOf all r) where
       ap (drop n) of.whole ∙ drop_at of.front r.list n (omega (arith, is, ap length of.whole, length-append of.front r.list))
 
 -- from a place on
-pub from_place : (all : List Point) (r : Left) (o : Option (Bor Marked)) (place : Option Marked) → option_copied o ≡ place
-    → IfNone o (IsRestPast 0 all r) → IfSome o (λ b. IsRestPast b.now.count all r) → IsRestPast (passed place) all r
-from_place all r None place is none some = subst (λ (p : Option Marked). IsRestPast (passed p) all r) is none
-from_place all r (Some b) place is none some = subst (λ (p : Option Marked). IsRestPast (passed p) all r) is some
+pub from_place : (all : List Point) (r : UndecodedList) (o : Option (Bor MarkState)) (place : Option MarkState) → option_copied o ≡ place
+    → IfNone o (IsUndecodedPast 0 all r) → IfSome o (λ b. IsUndecodedPast b.now.count all r) → IsUndecodedPast (passed place) all r
+from_place all r None place is none some = subst (λ (p : Option MarkState). IsUndecodedPast (passed p) all r) is none
+from_place all r (Some b) place is none some = subst (λ (p : Option MarkState). IsUndecodedPast (passed p) all r) is some
 
 -- with one more sample passed
-module _ (all : List Point) (n : ℕ) (r q : Left) (past : IsRestPast n all r) (list : q.list ≡ drop 1 r.list) where
-  pub one_passed : q.state ≡ state_from r.state (take 1 r.list) → IsRestOf all q
+module _ (all : List Point) (n : ℕ) (r q : UndecodedList) (past : IsUndecodedPast n all r) (list : q.list ≡ drop 1 r.list) where
+  pub one_passed : q.state ≡ state_from r.state (take 1 r.list) → IsUndecodedOf all q
   one_passed state =
       some_passed all r q (rest_of all n r past) (take 1 r.list) (ap (λ (l : List Point). take 1 r.list ++ l) list ∙ take-append-drop 1 r.list) state
 

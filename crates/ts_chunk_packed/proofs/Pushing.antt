@@ -4,7 +4,7 @@ use Rattle.std.specs.Prelude.{Option, None, Some, nat_le, unwrap_or, is_some}
 use Rattle.std.proofs.lemmas.Bool.Decides.{nat_tests}
 use Rattle.std.proofs.lemmas.Int.{ints}
 use Rattle.ts_spec.specs.Sample.{Point, MAX_TIME, first_of, last_of}
-use Rattle.ts_sample.specs.Sample.{IsFine}
+use Rattle.ts_sample.specs.Sample.{IsInBounds}
 use Rattle.ts_sample.specs.Chunk.{IsChunk, IsLimit, IsPast}
 use Rattle.ts_sample.proofs.Lists.{fine-append, ascending-push, last-push}
 use Rattle.ts_chunk_packed.specs.Chunk.{Samples, IsPacked}
@@ -66,7 +66,7 @@ module _ {limit capacity : ℕ} {written : List ℕ} {count step : ℕ} {begins 
   few = omega (arith, three_or_more list, was.chunk.fits, was.count)
 
   -- where there is room for the widest sample, any fits
-  pub surely_fits : {now : Samples} → (record { limit = limit; list = list }) ≡ now → (p : Point) → IsFine p → IsPast (last_of now.list) p.time → 27 + length written ≤ limit
+  pub surely_fits : {now : Samples} → (record { limit = limit; list = list }) ≡ now → (p : Point) → IsInBounds p → IsPast (last_of now.list) p.time → 27 + length written ≤ limit
       → true ≡ nat_le (length (packed (now.list ++ p ∷ []))) now.limit
   surely_fits {now} is p fine past room =
       let here : IsPast (last_of list) p.time = subst (λ (x : Samples). IsPast (last_of x.list) p.time) (sym is) past in
@@ -99,7 +99,7 @@ module _ {limit capacity : ℕ} {written : List ℕ} {count step : ℕ} {begins 
         grind (arith, nat_tests)
 
   -- its bytes past the others make a chunk of the samples and this one
-  module _ (p : Point) (fine : IsFine p) (past : IsPast (last_of list) p.time) (fits : length (packed (list ++ p ∷ [])) ≤ limit) where
+  module _ (p : Point) (fine : IsInBounds p) (past : IsPast (last_of list) p.time) (fits : length (packed (list ++ p ∷ [])) ≤ limit) where
     long : length (list ++ p ∷ []) ≡ count + 1
     long = omega (arith, length-append list (p ∷ []), was.count)
 

@@ -4,11 +4,11 @@ use Rattle.std.specs.Prelude.{nat_lt, nat_le}
 use Rattle.std.proofs.lemmas.Bool.{cases_lt}
 use Rattle.std.proofs.lemmas.Bool.Decides.{nat_tests}
 use Rattle.ts_spec.specs.Sample.{Point, IsAfter, IsAscending, at_times}
-use Rattle.ts_sample.specs.Chunk.{AreFine}
+use Rattle.ts_sample.specs.Chunk.{AreInBounds}
 use Rattle.ts_chunk_packed.specs.Laws.{IsKnown, nothing_known}
 use Rattle.ts_chunk_packed.specs.Packed.{State, begin, next, coded, packed_from, state_from, packed, sample_of, decoded_from, decoded, samples_of}
 use Rattle.ts_chunk_packed.specs.Reading.{Follows, StartsFrom}
-use Rattle.ts_chunk_packed.specs.Rest.{IsLeft, samples_from}
+use Rattle.ts_chunk_packed.specs.Decoder.{IsUndecoded, samples_from}
 use Rattle.ts_chunk_packed.proofs.Decoding.{sample_back}
 use Rattle.ts_chunk_packed.proofs.Listing.{starts_after, starts_anywhere, known_next, length_from, back_from}
 
@@ -22,13 +22,13 @@ unfolding samples_from
 samples_are s n bytes ps count are =
     (λ i. (decoded_from s (count i) ((are ∙ sym (append-nil (packed_from s ps))) i)).0) ∙ ap (λ (r : List Point × List ℕ). r.0) (back_from s ps [])
 
-pub is_left : (s : State) (n : ℕ) (bytes : List ℕ) (ps : List Point) → n ≡ length ps → bytes ≡ packed_from s ps → IsKnown s → AreFine ps → IsAscending ps → StartsFrom s.before.time ps → IsLeft s n bytes
+pub is_left : (s : State) (n : ℕ) (bytes : List ℕ) (ps : List Point) → n ≡ length ps → bytes ≡ packed_from s ps → IsKnown s → AreInBounds ps → IsAscending ps → StartsFrom s.before.time ps → IsUndecoded s n bytes
 is_left s n bytes ps count are known fine rises starts =
     let same : ps ≡ samples_from s n bytes = sym (samples_are s n bytes ps count are) in
     record {
       known = known;
       bytes = are ∙ ap (packed_from s) same;
-      fine = subst AreFine same fine;
+      fine = subst AreInBounds same fine;
       ascending = subst IsAscending same rises;
       starts = subst (StartsFrom s.before.time) same starts;
     }
@@ -38,12 +38,12 @@ pub all_are : (n : ℕ) (bytes : List ℕ) → samples_from begin n bytes ≡ sa
 unfolding samples_from samples_of decoded
 all_are n bytes = refl
 
-pub all_left : (s : State) (n : ℕ) (bytes : List ℕ) → s ≡ begin → bytes ≡ packed (samples_of n bytes) → IsAscending (samples_of n bytes) → AreFine (samples_of n bytes) → IsLeft s n bytes
+pub all_left : (s : State) (n : ℕ) (bytes : List ℕ) → s ≡ begin → bytes ≡ packed (samples_of n bytes) → IsAscending (samples_of n bytes) → AreInBounds (samples_of n bytes) → IsUndecoded s n bytes
 unfolding samples_from samples_of decoded
 all_left s n bytes first are rises fine =
-    let whole : IsLeft begin n bytes =
+    let whole : IsUndecoded begin n bytes =
     record { known = nothing_known; bytes = are; fine = fine; ascending = rises; starts = starts_anywhere (samples_of n bytes) } in
-    subst (λ (t : State). IsLeft t n bytes) (sym first) whole
+    subst (λ (t : State). IsUndecoded t n bytes) (sym first) whole
 
 none : (s : State) (bytes : List ℕ) → samples_from s zero bytes ≡ []
 unfolding samples_from
@@ -64,15 +64,15 @@ module _ (s : State) (n : ℕ) (bytes : List ℕ) where
   unfolding samples_from
   next_one = refl
 
-  module _ (left : IsLeft s (suc n) bytes) where
+  module _ (left : IsUndecoded s (suc n) bytes) where
     abbrev rest : List Point
     rest = samples_from (next s first) n others
 
     bytes_are : bytes ≡ coded s first ++ packed_from (next s first) rest
     bytes_are = left.bytes ∙ ap (packed_from s) next_one
 
-    fine_both : AreFine (first ∷ rest)
-    fine_both = subst AreFine next_one left.fine
+    fine_both : AreInBounds (first ∷ rest)
+    fine_both = subst AreInBounds next_one left.fine
 
     rising_both : IsAscending (first ∷ rest)
     rising_both = subst IsAscending next_one left.ascending
@@ -83,7 +83,7 @@ module _ (s : State) (n : ℕ) (bytes : List ℕ) where
     follows_it : Follows s bytes
     follows_it = record { sample = first; rest = packed_from (next s first) rest; is = bytes_are; fine = fine_both.0; later = not_earlier }
 
-    left_after : IsLeft (next s first) n others
+    left_after : IsUndecoded (next s first) n others
     left_after = record {
       known = known_next s first left.known fine_both.0 not_earlier;
       bytes = ap (λ (l : List ℕ). (sample_of s l).1) bytes_are ∙ ap (λ (r : Point × List ℕ). r.1) (sample_back s first (packed_from (next s first) rest));
@@ -93,12 +93,12 @@ module _ (s : State) (n : ℕ) (bytes : List ℕ) where
     }
 
 -- the same of a count that is not 0
-module _ {s : State} {count : ℕ} {bytes : List ℕ} (some : 0 < count) (left : IsLeft s count bytes) where
+module _ {s : State} {count : ℕ} {bytes : List ℕ} (some : 0 < count) (left : IsUndecoded s count bytes) where
   is_more : count ≡ suc (count - 1)
   is_more = omega (arith, some)
 
-  left_more : IsLeft s (suc (count - 1)) bytes
-  left_more = subst (λ (n : ℕ). IsLeft s n bytes) is_more left
+  left_more : IsUndecoded s (suc (count - 1)) bytes
+  left_more = subst (λ (n : ℕ). IsUndecoded s n bytes) is_more left
 
   pub follows : Follows s bytes
   follows = follows_it s (count - 1) bytes left_more
@@ -113,10 +113,10 @@ module _ {s : State} {count : ℕ} {bytes : List ℕ} (some : 0 < count) (left :
         ap (λ (n : ℕ). samples_from s n bytes) is_more ∙ next_one s (count - 1) bytes
         ∙ sym (λ i. first_is i ∷ samples_from ((state ∙ ap (next s) first_is) i) (count - 1) (after_is i))
 
-    pub left_then : (t : State) → t ≡ next s p → IsLeft t (count - 1) after
+    pub left_then : (t : State) → t ≡ next s p → IsUndecoded t (count - 1) after
     left_then t state =
         let there = left_after s (count - 1) bytes left_more in
-        subst (λ (u : State). IsLeft u (count - 1) after) (sym (state ∙ ap (next s) first_is)) (subst (λ (l : List ℕ). IsLeft (next s (sample_of s bytes).0) (count - 1) l) (sym after_is) there)
+        subst (λ (u : State). IsUndecoded u (count - 1) after) (sym (state ∙ ap (next s) first_is)) (subst (λ (l : List ℕ). IsUndecoded (next s (sample_of s bytes).0) (count - 1) l) (sym after_is) there)
 
 -- ---- times
 

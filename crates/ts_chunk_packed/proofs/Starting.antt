@@ -5,14 +5,14 @@ use Rattle.std.proofs.lemmas.Bool.Decides.{nat_tests}
 use Rattle.std.proofs.lemmas.List.{take_all, take-append-drop, drop_at, length-drop}
 use Rattle.std.proofs.lemmas.List.Filters.{length-filter_both}
 use Rattle.ts_spec.specs.Sample.{Point, IsAscending, at_times, is_within, between}
-use Rattle.ts_sample.specs.Chunk.{AreFine}
+use Rattle.ts_sample.specs.Chunk.{AreInBounds}
 use Rattle.ts_sample.proofs.Lists.{ascending-left, ascending-right, past-before, fine-left, fine-right}
 use Rattle.ts_chunk_packed.specs.Chunk.{Samples, IsMarked}
 use Rattle.ts_chunk_packed.specs.Laws.{IsKnown}
-use Rattle.ts_chunk_packed.specs.Marks.{Marked, IsMark, AreMarks}
+use Rattle.ts_chunk_packed.specs.Marks.{MarkState, IsMark, AreMarks}
 use Rattle.ts_chunk_packed.specs.Packed.{State, begin, next, packed_from, packed, state_from, samples_of}
 use Rattle.ts_chunk_packed.specs.Reading.{StartsFrom}
-use Rattle.ts_chunk_packed.specs.Rest.{Left, IsLeft, IsRestOf, IsRestPast, IsRestFrom, AreBefore, samples_from}
+use Rattle.ts_chunk_packed.specs.Decoder.{UndecodedList, IsUndecoded, IsUndecodedOf, IsUndecodedPast, IsUndecodedFrom, AreBefore, samples_from}
 use Rattle.ts_chunk_packed.proofs.Appending.{packed-append, state-append}
 use Rattle.ts_chunk_packed.proofs.Listing.{all_known, past_before}
 use Rattle.ts_chunk_packed.proofs.Joining.{list_is, written_is, count_is, fine, rises}
@@ -47,8 +47,8 @@ none_between t to (p ∷ front) rest before =
 
 -- ---- some passed
 
-module _ (all : List Point) (r q : Left) (of : IsRestOf all r) where
-  pub some_passed : (passed : List Point) → passed ++ q.list ≡ r.list → q.state ≡ state_from r.state passed → IsRestOf all q
+module _ (all : List Point) (r q : UndecodedList) (of : IsUndecodedOf all r) where
+  pub some_passed : (passed : List Point) → passed ++ q.list ≡ r.list → q.state ≡ state_from r.state passed → IsUndecodedOf all q
   some_passed passed parts known = record {
     front = of.front ++ passed;
     whole = of.whole ∙ ap (λ (l : List Point). of.front ++ l) (sym parts) ∙ sym (append_assoc of.front passed q.list);
@@ -58,7 +58,7 @@ module _ (all : List Point) (r q : Left) (of : IsRestOf all r) where
   rises_rest : IsAscending all → IsAscending r.list
   rises_rest rises = ascending-right of.front r.list (subst IsAscending of.whole rises)
 
-  pub times_passed : (time : ℕ) → IsAscending all → q.list ≡ at_times (nat_le time) r.list → q.state ≡ state_from r.state (at_times (λ n. nat_lt n time) r.list) → IsRestOf all q
+  pub times_passed : (time : ℕ) → IsAscending all → q.list ≡ at_times (nat_le time) r.list → q.state ≡ state_from r.state (at_times (λ n. nat_lt n time) r.list) → IsUndecodedOf all q
   times_passed time rises list known =
       some_passed (at_times (λ n. nat_lt n time) r.list) (ap (λ (l : List Point). at_times (λ n. nat_lt n time) r.list ++ l) list ∙ parts_of time r.list (rises_rest rises)) known
 
@@ -70,7 +70,7 @@ module _ (all : List Point) (r q : Left) (of : IsRestOf all r) where
   shorter = omega (arith, ap length of.whole, length-append of.front r.list)
 
 -- with all before a time passed
-abbrev pub rest_at : (time : ℕ) (all : List Point) → IsAscending all → (r : Left) → r.list ≡ at_times (nat_le time) all → r.state ≡ state_from begin (at_times (λ n. nat_lt n time) all) → IsRestOf all r
+abbrev pub rest_at : (time : ℕ) (all : List Point) → IsAscending all → (r : UndecodedList) → r.list ≡ at_times (nat_le time) all → r.state ≡ state_from begin (at_times (λ n. nat_lt n time) all) → IsUndecodedOf all r
 rest_at time all rises r list known = record {
   front = at_times (λ n. nat_lt n time) all;
   whole = sym (ap (λ (l : List Point). at_times (λ n. nat_lt n time) all ++ l) list ∙ parts_of time all rises);
@@ -83,7 +83,7 @@ no_more time ps =
 
 -- ---- from a mark on
 
-module _ (all : List Point) (m : Marked) (is : IsMark all m) (written : List ℕ) (many : ℕ) (bytes : written ≡ packed all) (count : many ≡ length all) (fine : AreFine all) (rises : IsAscending all) where
+module _ (all : List Point) (m : MarkState) (is : IsMark all m) (written : List ℕ) (many : ℕ) (bytes : written ≡ packed all) (count : many ≡ length all) (fine : AreInBounds all) (rises : IsAscending all) where
   abbrev front : List Point
   front = take m.count all
 
@@ -117,8 +117,8 @@ module _ (all : List Point) (m : Marked) (is : IsMark all m) (written : List ℕ
   rises_both : IsAscending (front ++ back)
   rises_both = subst IsAscending (sym parts) rises
 
-  fine_both : AreFine (front ++ back)
-  fine_both = subst AreFine (sym parts) fine
+  fine_both : AreInBounds (front ++ back)
+  fine_both = subst AreInBounds (sym parts) fine
 
   -- with what is known there, and the bytes from there on
   module _ (s : State) (left : List ℕ) (state : s ≡ m.state) (left_is : left ≡ drop m.at written) where
@@ -128,7 +128,7 @@ module _ (all : List Point) (m : Marked) (is : IsMark all m) (written : List ℕ
     left_are : left ≡ packed_from s back
     left_are = left_is ∙ left_bytes ∙ ap (λ (x : State). packed_from x back) (sym state)
 
-    pub left_of : IsLeft s (many - m.count) left
+    pub left_of : IsUndecoded s (many - m.count) left
     left_of =
         is_left s (many - m.count) left back left_count left_are
         (subst IsKnown (sym there) (all_known front (fine-left front back fine_both) (ascending-left front back rises_both)))
@@ -136,19 +136,19 @@ module _ (all : List Point) (m : Marked) (is : IsMark all m) (written : List ℕ
         (ascending-right front back rises_both)
         (subst (λ (x : State). StartsFrom x.before.time back) (sym there) (starts back rises_both))
 
-    pub rest_past : (r : Left) → r.state ≡ s → r.list ≡ samples_from s (many - m.count) left → IsRestPast m.count all r
+    pub rest_past : (r : UndecodedList) → r.state ≡ s → r.list ≡ samples_from s (many - m.count) left → IsUndecodedPast m.count all r
     rest_past r known list = record { within = is.within; list = list ∙ samples_are s (many - m.count) left back left_count left_are; state = known ∙ there }
 
 -- what stands past some of the samples is the rest of them
-module _ (all : List Point) (n : ℕ) (r : Left) (past : IsRestPast n all r) where
-  abbrev pub rest_of : IsRestOf all r
+module _ (all : List Point) (n : ℕ) (r : UndecodedList) (past : IsUndecodedPast n all r) where
+  abbrev pub rest_of : IsUndecodedOf all r
   rest_of = record {
     front = take n all;
     whole = sym (take-append-drop n all) ∙ ap (λ (l : List Point). take n all ++ l) (sym past.list);
     state = past.state;
   }
 
-  pub rest_from : (time : ℕ) → IsAscending all → (state_from begin (take n all)).before.time < time → IsRestFrom time all r
+  pub rest_from : (time : ℕ) → IsAscending all → (state_from begin (take n all)).before.time < time → IsUndecodedFrom time all r
   rest_from time up early = record {
     rest = rest_of;
     before = early_from begin (take n all) time (ascending-left (take n all) (drop n all) (subst IsAscending (sym (take-append-drop n all)) up)) early;
@@ -160,14 +160,14 @@ where_none None p = p
 where_none (Some x) p = tt
 
 -- from a mark on, or from the first sample on
-pub rest_either : {X : Type 0} (mark : X → Marked) (time : ℕ) (all : List Point) (r : Left) → IsAscending all → (o : Option X)
-    → IfSome o (λ x. IsMark all (mark x)) → IfSome o (λ x. (mark x).state.before.time < time) → IfNone o (IsRestPast 0 all r) → IfSome o (λ x. IsRestPast (mark x).count all r) → IsRestFrom time all r
+pub rest_either : {X : Type 0} (mark : X → MarkState) (time : ℕ) (all : List Point) (r : UndecodedList) → IsAscending all → (o : Option X)
+    → IfSome o (λ x. IsMark all (mark x)) → IfSome o (λ x. (mark x).state.before.time < time) → IfNone o (IsUndecodedPast 0 all r) → IfSome o (λ x. IsUndecodedPast (mark x).count all r) → IsUndecodedFrom time all r
 rest_either mark time all r up None is early none past = record { rest = rest_of all 0 r none; before = tt }
 rest_either mark time all r up (Some x) is early none past =
     rest_from all (mark x).count r past time up (subst (λ (s : State). s.before.time < time) is.state early)
 
 -- the same of a chunk's fields
-module _ {limit capacity : ℕ} {written : List ℕ} {many far : ℕ} {begins ends : Option Point} {places : List Marked} (was : IsMarked limit capacity written many far begins ends places)
+module _ {limit capacity : ℕ} {written : List ℕ} {many far : ℕ} {begins ends : Option Point} {places : List MarkState} (was : IsMarked limit capacity written many far begins ends places)
     {now : Samples} (is : (record { limit = limit; list = samples_of many written }) ≡ now) where
   list_here : samples_of many written ≡ now.list
   list_here = list_is was.packed is
@@ -178,14 +178,14 @@ module _ {limit capacity : ℕ} {written : List ℕ} {many far : ℕ} {begins en
   pub marks_are : AreMarks now.list places
   marks_are = subst (λ (l : List Point). AreMarks l places) list_here was.marks
 
-  module _ (m : Marked) (mark : IsMark now.list m) where
+  module _ (m : MarkState) (mark : IsMark now.list m) where
     bytes_here : written ≡ packed now.list
     bytes_here = written_is was.packed is
 
     count_here : many ≡ length now.list
     count_here = count_is was.packed is
 
-    fine_here : AreFine now.list
+    fine_here : AreInBounds now.list
     fine_here = fine was.packed is
 
     rises_here : IsAscending now.list
@@ -202,23 +202,23 @@ module _ {limit capacity : ℕ} {written : List ℕ} {many far : ℕ} {begins en
       slice = take_all (length all - at) (drop at all) (omega (arith, length-drop at all)) ∙ (λ i. drop (at_is i) (all_are i))
 
       module _ (count : ℕ) (count_same : count ≡ m.count) (s : State) (state : s ≡ m.state) where
-        pub mark_left : IsLeft s (many - count) (take (length all - at) (drop at all))
+        pub mark_left : IsUndecoded s (many - count) (take (length all - at) (drop at all))
         mark_left =
-            subst (λ (n : ℕ). IsLeft s (many - n) (take (length all - at) (drop at all))) (sym count_same)
+            subst (λ (n : ℕ). IsUndecoded s (many - n) (take (length all - at) (drop at all))) (sym count_same)
             (left_of now.list m mark written many bytes_here count_here fine_here rises_here s (take (length all - at) (drop at all)) state slice)
 
-        pub mark_rest : (r : Left) → r.state ≡ s → r.list ≡ samples_from s (many - count) (take (length all - at) (drop at all)) → IsRestPast m.count now.list r
+        pub mark_rest : (r : UndecodedList) → r.state ≡ s → r.list ≡ samples_from s (many - count) (take (length all - at) (drop at all)) → IsUndecodedPast m.count now.list r
         mark_rest r known list =
             rest_past now.list m mark written many bytes_here count_here fine_here rises_here s (take (length all - at) (drop at all)) state slice r known
             (list ∙ ap (λ (n : ℕ). samples_from s (many - n) (take (length all - at) (drop at all))) count_same)
 
   -- and of all its samples
   module _ (s : State) (first : s ≡ begin) (all : List ℕ) (all_bytes : all ≡ written) where
-    pub first_left : IsLeft s many all
+    pub first_left : IsUndecoded s many all
     first_left =
-        subst (λ (l : List ℕ). IsLeft s many l) (sym all_bytes) (all_left s many written first was.packed.bytes was.packed.chunk.ascending was.packed.chunk.fine)
+        subst (λ (l : List ℕ). IsUndecoded s many l) (sym all_bytes) (all_left s many written first was.packed.bytes was.packed.chunk.ascending was.packed.chunk.fine)
 
-    pub first_rest : (r : Left) → r.state ≡ s → r.list ≡ samples_from s many all → IsRestPast 0 now.list r
+    pub first_rest : (r : UndecodedList) → r.state ≡ s → r.list ≡ samples_from s many all → IsUndecodedPast 0 now.list r
     first_rest r known list = record {
       within = omega arith;
       list = list ∙ (λ i. samples_from (first i) many (all_bytes i)) ∙ all_are many written ∙ list_here;
@@ -227,7 +227,7 @@ module _ {limit capacity : ℕ} {written : List ℕ} {many far : ℕ} {begins en
 
 -- ---- what is asked of them
 
-module _ (time : ℕ) (all : List Point) (r : Left) (from : IsRestFrom time all r) where
+module _ (time : ℕ) (all : List Point) (r : UndecodedList) (from : IsUndecodedFrom time all r) where
   pub rest_reach : at_times (nat_le time) r.list ≡ at_times (nat_le time) all
   rest_reach = sym (ap (at_times (nat_le time)) from.rest.whole ∙ none_reach time from.rest.front r.list from.before)
 

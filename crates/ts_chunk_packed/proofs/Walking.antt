@@ -5,12 +5,12 @@ use Rattle.std.proofs.lemmas.Bool.Decides.{nat_tests}
 use Rattle.std.proofs.Math.Seq.{drop-cons}
 use Rattle.std.proofs.lemmas.List.{drop_all}
 use Rattle.ts_spec.specs.Sample.{Point, IsAfter, IsAscending, is_within, between}
-use Rattle.ts_sample.specs.Chunk.{AreFine}
+use Rattle.ts_sample.specs.Chunk.{AreInBounds}
 use Rattle.ts_sample.specs.Visit.{visited}
 use Rattle.ts_chunk_packed.specs.Laws.{IsKnown}
 use Rattle.ts_chunk_packed.specs.Packed.{State, begin, next, packed_from, sample_of}
 use Rattle.ts_chunk_packed.specs.Reading.{Follows, StartsFrom}
-use Rattle.ts_chunk_packed.specs.Rest.{IsLeft, samples_from}
+use Rattle.ts_chunk_packed.specs.Decoder.{IsUndecoded, samples_from}
 use Rattle.ts_chunk_packed.proofs.Decoding.{sample_back}
 use Rattle.ts_chunk_packed.proofs.Listing.{starts_after, known_next}
 
@@ -19,7 +19,7 @@ use Rattle.ts_chunk_packed.proofs.Listing.{starts_after, known_next}
 pub record Walked {V : Type 0} (step : V → Point → V) (places : V → ℕ) (from to : ℕ) (begins now : V) (all rest : List Point) (s : State) (left : List ℕ) (before steps count : ℕ) : Type 0 where
   pub bytes : left ≡ packed_from s rest
   pub known : IsKnown s
-  pub fine : AreFine rest
+  pub fine : AreInBounds rest
   pub ascending : IsAscending rest
   pub starts : StartsFrom s.before.time rest
   pub visited : visited step now (between from to rest) ≡ visited step begins (between from to all)
@@ -89,12 +89,12 @@ module _ {V : Type 0} (step : V → Point → V) (room : V → ℕ) (lowers : (v
   at_most_one = omega (arith, ap length both, one_more (nat_le from p.time))
 
 module _ {V : Type 0} {step : V → Point → V} {room : V → ℕ} (lowers : (v : V) (p : Point) → room v ≤ room (step v p) + 1) {from to : ℕ} {begins : V} {all : List Point} {before : ℕ} where
-  pub begun : (s : State) (count : ℕ) (left : List ℕ) → IsLeft s count left → samples_from s count left ≡ all → length (between from to all) ≤ room begins
+  pub begun : (s : State) (count : ℕ) (left : List ℕ) → IsUndecoded s count left → samples_from s count left ≡ all → length (between from to all) ≤ room begins
       → Walked step room from to begins begins all all s left before before 0
   begun s count left is list enough = record {
     bytes = is.bytes ∙ ap (packed_from s) list;
     known = is.known;
-    fine = subst AreFine list is.fine;
+    fine = subst AreInBounds list is.fine;
     ascending = subst IsAscending list is.ascending;
     starts = subst (StartsFrom s.before.time) list is.starts;
     visited = refl;

@@ -2,7 +2,7 @@
 use Rattle.std.specs.Prelude.{◌≡◌, ℕ, ◌≤◌, pos, List, length, Option}
 use Rattle.ts_spec.specs.Sample.{Point, first_of, last_of}
 use Rattle.ts_sample.specs.Chunk.{IsChunk}
-use Rattle.ts_chunk_packed.specs.Marks.{Marked, AreMarks}
+use Rattle.ts_chunk_packed.specs.Marks.{MarkState, AreMarks}
 use Rattle.ts_chunk_packed.specs.Packed.{begin, packed, state_from, samples_of}
 
 -- a packed chunk: its samples and its size limit
@@ -24,6 +24,6 @@ pub record IsPacked (limit capacity : ℕ) (written : List ℕ) (many far : ℕ)
   pub last : ends ≡ last_of (samples_of many written)
 
 -- the same, and every mark comes after some of the samples
-pub record IsMarked (limit capacity : ℕ) (written : List ℕ) (many far : ℕ) (begins ends : Option Point) (places : List Marked) : Type 0 where
+pub record IsMarked (limit capacity : ℕ) (written : List ℕ) (many far : ℕ) (begins ends : Option Point) (places : List MarkState) : Type 0 where
   pub packed : IsPacked limit capacity written many far begins ends
   pub marks : AreMarks (samples_of many written) places

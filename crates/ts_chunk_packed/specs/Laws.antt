@@ -5,13 +5,13 @@ use Rattle.std.proofs.lemmas.Int.{ints}
 use Rattle.ts_spec.specs.Sample.{Point, MAX_TIME}
 use Rattle.ts_spec.specs.Value.{bound}
 use Rattle.ts_sample.specs.Chunk.{least_limit}
-use Rattle.ts_sample.specs.Sample.{IsFine}
+use Rattle.ts_sample.specs.Sample.{IsInBounds}
 use Rattle.ts_chunk_packed.specs.Packed.{State, begin, gap, next, zigzag, number, coded, packed_from, packed}
 use Rattle.ts_chunk_packed.specs.Numbers.{some_bytes, most_bytes}
 
 -- the context is within the bounds of samples
 pub record IsKnown (s : State) : Type 0 where
-  pub fine : IsFine s.before
+  pub fine : IsInBounds s.before
   pub from : pos 0 ≤ℤ s.step
   pub to : s.step ≤ℤ pos MAX_TIME
 
@@ -45,26 +45,26 @@ between_both : (a b : ℤ) (m : ℕ) → pos 0 ≤ℤ a → a ≤ℤ pos m → p
 between_both a b m c d e f = omega (arith, ints)
 
 -- the number that codes a time is bounded
-pub time_most : (s : State) (p : Point) → IsKnown s → IsFine p → s.before.time ≤ p.time → zigzag (gap s p.time -ℤ s.step) ≤ 2 * MAX_TIME
+pub time_most : (s : State) (p : Point) → IsKnown s → IsInBounds p → s.before.time ≤ p.time → zigzag (gap s p.time -ℤ s.step) ≤ 2 * MAX_TIME
 time_most s p known fine later =
     let low : pos 0 ≤ℤ gap s p.time = omega (arith, ints) in
     let high : gap s p.time ≤ℤ pos MAX_TIME = omega (arith, ints, fine.time) in
     zigzag_most (gap s p.time -ℤ s.step) MAX_TIME (between_both (gap s p.time) s.step MAX_TIME low high known.from known.to)
 
 -- the number that codes a value is bounded
-pub value_most : (s : State) (p : Point) → IsKnown s → IsFine p → zigzag (p.value -ℤ s.before.value) ≤ 2 * (2 * bound)
+pub value_most : (s : State) (p : Point) → IsKnown s → IsInBounds p → zigzag (p.value -ℤ s.before.value) ≤ 2 * (2 * bound)
 value_most s p known fine =
     zigzag_most (p.value -ℤ s.before.value) (2 * bound) (omega (arith, apart p.value s.before.value, fine.value, known.fine.value))
 
 -- the number that codes a rule count is bounded
-pub made_most : (s : State) (p : Point) → IsKnown s → IsFine p → zigzag (pos p.made -ℤ pos s.before.made) ≤ 2 * 2 ^ 32
+pub made_most : (s : State) (p : Point) → IsKnown s → IsInBounds p → zigzag (pos p.made -ℤ pos s.before.made) ≤ 2 * 2 ^ 32
 made_most s p known fine =
     let here : pos p.made ≤ℤ pos (2 ^ 32) = omega (arith, ints, fine.made) in
     let before : pos s.before.made ≤ℤ pos (2 ^ 32) = omega (arith, ints, known.fine.made) in
     zigzag_most (pos p.made -ℤ pos s.before.made) (2 ^ 32) (between_both (pos p.made) (pos s.before.made) (2 ^ 32) (omega (arith, ints)) here (omega (arith, ints)) before)
 
 -- a sample takes at most 27 bytes
-pub most_coded : (s : State) (p : Point) → IsKnown s → IsFine p → s.before.time ≤ p.time → length (coded s p) ≤ 27
+pub most_coded : (s : State) (p : Point) → IsKnown s → IsInBounds p → s.before.time ≤ p.time → length (coded s p) ≤ 27
 most_coded s p known fine later =
     omega (
       arith,
@@ -108,6 +108,6 @@ pub no_fewer : (ps : List Point) (p : Point) → length (packed ps) ≤ length (
 no_fewer ps p = no_fewer_from begin ps p
 
 -- a single sample fits in a chunk of any allowed limit
-pub one_within : (p : Point) → IsFine p → length (packed (p ∷ [])) ≤ least_limit
+pub one_within : (p : Point) → IsInBounds p → length (packed (p ∷ [])) ≤ least_limit
 one_within p fine =
     omega (arith, length-append (coded begin p) [], most_coded begin p nothing_known fine (omega arith))

@@ -4,4 +4,4 @@ pub mod Marks
 pub mod Numbers
 pub mod Packed
 pub mod Reading
-pub mod Rest
+pub mod Decoder

@@ -1,7 +1,7 @@
 -- What bytes start with.
 use Rattle.std.specs.Prelude.{◌≡◌, ℕ, ◌<◌, ◌≤◌, ⊤, List, [], ◌∷◌, ◌++◌}
 use Rattle.ts_spec.specs.Sample.{Point}
-use Rattle.ts_sample.specs.Sample.{IsFine}
+use Rattle.ts_sample.specs.Sample.{IsInBounds}
 use Rattle.ts_chunk_packed.specs.Packed.{State, number, coded}
 
 -- the bytes start with a number below a limit
@@ -16,7 +16,7 @@ pub record Follows (s : State) (bytes : List ℕ) : Type 0 where
   pub sample : Point
   pub rest : List ℕ
   pub is : bytes ≡ coded s sample ++ rest
-  pub fine : IsFine sample
+  pub fine : IsInBounds sample
   pub later : s.before.time ≤ sample.time
 
 -- the first of the samples is no earlier than t

@@ -6,10 +6,10 @@ mod parts;
 mod splice;
 
 use crate::chunk::splice::are_halves;
-use crate::coding::{WIDEST, encode, width_of};
+use crate::coding::{MAX_SAMPLE_BYTES, encode, width_of};
+use crate::interval_scan::walk;
 use crate::late_marks::LateMarks;
-use crate::mark::{Mark, Offset};
-use crate::walk::walk;
+use crate::mark::{Mark, MarkPosition};
 use std::alloc::{AllocError, Global};
 use std::marker::Model;
 use std::sync::ledger::Ledger;
@@ -127,7 +127,7 @@ impl Chunk for PackedChunk {
 
     fn fits(&self, sample: &Sample) -> bool {
         let room = self.limit as usize - self.bytes.len();
-        if WIDEST <= room {
+        if MAX_SAMPLE_BYTES <= room {
             sample.known();
             return true;
         }
@@ -140,7 +140,7 @@ impl Chunk for PackedChunk {
         }
         sample.known();
         let context = self.context();
-        let place = Offset {
+        let place = MarkPosition {
             at: self.bytes.len() as u32,
             count: self.count,
         };

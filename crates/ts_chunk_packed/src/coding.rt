@@ -7,12 +7,12 @@ ghost use Rattle.ts_chunk_packed.specs.Packed.{coded, gap, number_of, sample_of,
 ghost use Rattle.ts_chunk_packed.specs.Reading.{Begins, Follows};
 
 use crate::context::Context;
-use crate::number::{put, put_wide, read, width, width_wide};
-use crate::zigzag::{ahead, ahead_near, ahead_wide, apart, apart_wide};
+use crate::varint::{put, read, width, width_wide, write_wide};
+use crate::zigzag::{add_delta, add_narrow, add_wide, apart, apart_wide};
 use ts_sample::{Sample, Units};
 
 /// The largest coded sample, in bytes.
-pub const WIDEST: usize = 27;
+pub const MAX_SAMPLE_BYTES: usize = 27;
 
 /// The size of the coded sample, in bytes.
 pub fn width_of(context: &Context, sample: &Sample) -> usize
@@ -32,7 +32,7 @@ pub fn encode(bytes: &mut Vec<u8>, context: &Context, sample: &Sample)
 {
     let numbers = numbers_of(context, sample);
     put(bytes, numbers.time);
-    put_wide(bytes, numbers.value);
+    write_wide(bytes, numbers.value);
     put(bytes, numbers.made);
 }
 
@@ -81,12 +81,14 @@ fn numbers_of(context: &Context, sample: &Sample) -> Numbers
 fn time_after<'a>(context: &Context, bytes: &'a [u8]) -> (u64, &'a [u8])
     requires begins { Begins (2 ^ 64) bytes.now }
     requires least { pos 0 ≤ℤ (context.now.step +ℤ unzigzag (number_of bytes.now).0) }
-    requires most { (pos context.now.before.time +ℤ (context.now.step +ℤ unzigzag (number_of bytes.now).0)) ≤ℤ pos MAX_TIME }
-    ensures time { pos result.0 ≡ pos context.now.before.time +ℤ (context.now.step +ℤ unzigzag (number_of bytes.now).0) }
+    requires most { (pos context.now.before.time +ℤ (context.now.step +ℤ unzigzag (number_of bytes.now).0)) ≤ℤ pos
+        MAX_TIME }
+    ensures time { pos result.0
+        ≡ pos context.now.before.time +ℤ (context.now.step +ℤ unzigzag (number_of bytes.now).0) }
     ensures rest { result.1.now ≡ (number_of bytes.now).1 }
 {
     let (number, rest) = read(bytes);
-    let gap = ahead(context.step(), number);
+    let gap = add_delta(context.step(), number);
     (context.before().time + gap, rest)
 }
 
@@ -101,32 +103,32 @@ fn value_after(from: i128, bytes: &[u8]) -> (i128, &[u8])
 {
     let first = bytes[0] as u64;
     if first < 128 {
-        return (ahead_near(from, first), &bytes[1..]);
+        return (add_narrow(from, first), &bytes[1..]);
     }
     let one = first - 128;
     let second = bytes[1] as u64;
     if second < 128 {
-        return (ahead_near(from, one + second * 128), &bytes[2..]);
+        return (add_narrow(from, one + second * 128), &bytes[2..]);
     }
     let two = one + (second - 128) * 128;
     let third = bytes[2] as u64;
     if third < 128 {
-        return (ahead_near(from, two + third * 16_384), &bytes[3..]);
+        return (add_narrow(from, two + third * 16_384), &bytes[3..]);
     }
     let three = two + (third - 128) * 16_384;
     let fourth = bytes[3] as u64;
     if fourth < 128 {
-        return (ahead_near(from, three + fourth * 2_097_152), &bytes[4..]);
+        return (add_narrow(from, three + fourth * 2_097_152), &bytes[4..]);
     }
     let four = three + (fourth - 128) * 2_097_152;
     let fifth = bytes[4] as u64;
     if fifth < 128 {
-        return (ahead_near(from, four + fifth * 268_435_456), &bytes[5..]);
+        return (add_narrow(from, four + fifth * 268_435_456), &bytes[5..]);
     }
     let five = four + (fifth - 128) * 268_435_456;
     let sixth = bytes[5] as u64;
     if sixth < 128 {
-        return (ahead_near(from, five + sixth * 34_359_738_368), &bytes[6..]);
+        return (add_narrow(from, five + sixth * 34_359_738_368), &bytes[6..]);
     }
     value_after_long(from, bytes)
 }
@@ -146,7 +148,7 @@ fn value_after_long(from: i128, bytes: &[u8]) -> (i128, &[u8])
         let byte = bytes[at];
         if byte < 128 {
             let near = number + byte as u64 * weight;
-            return (ahead_near(from, near), &bytes[at + 1..]);
+            return (add_narrow(from, near), &bytes[at + 1..]);
         }
         number += (byte - 128) as u64 * weight;
         weight *= 128;
@@ -154,7 +156,7 @@ fn value_after_long(from: i128, bytes: &[u8]) -> (i128, &[u8])
     }
     let (higher, rest) = read(&bytes[at..]);
     let far = number as u128 + higher as u128 * weight as u128;
-    (ahead_wide(from, far), rest)
+    (add_wide(from, far), rest)
 }
 
 // Decodes a rule count from the first number of `bytes`. Returns it and the remaining bytes. It mostly equals the
@@ -171,7 +173,7 @@ fn made_after(from: u32, bytes: &[u8]) -> (u32, &[u8])
         return (from, &bytes[1..]);
     }
     let (number, rest) = read(bytes);
-    (ahead(from as u64, number) as u32, rest)
+    (add_delta(from as u64, number) as u32, rest)
 }
 
 /// Decoding the coded samples gives them back, in whatever order their times are, and leaves the bytes that follow.

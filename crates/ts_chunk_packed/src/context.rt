@@ -35,7 +35,7 @@ impl Context {
         ensures { result ≡ record { before = unwrap_or last begin.before; step = pos step; begun = is_some last } }
     {
         Context {
-            before: last.unwrap_or(no_sample()),
+            before: last.unwrap_or(zero_sample()),
             step,
             begun: last.is_some(),
         }
@@ -103,7 +103,7 @@ impl Context {
 
 /// The sample of zeros that the first sample is coded against.
 #[inline(always)]
-pub fn no_sample() -> Sample
+pub fn zero_sample() -> Sample
     ensures { result ≡ begin.before }
 {
     Sample {

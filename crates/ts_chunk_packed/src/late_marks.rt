@@ -5,7 +5,7 @@ ghost use Rattle.ts_chunk_packed.specs.Marks.{IsMark, AreMarks, EndsAt};
 ghost use Rattle.ts_chunk_packed.specs.Packed.{begin, packed, state_from};
 
 use crate::context::Context;
-use crate::mark::{Mark, Offset};
+use crate::mark::{Mark, MarkPosition};
 use crate::marks::Marks;
 use std::alloc::{AllocError, Global};
 use std::marker::Model;
@@ -18,9 +18,9 @@ pub struct LateMarks {
 
 impl Model for LateMarks {
     ghost use Rattle.std.specs.Prelude.{List};
-    ghost use Rattle.ts_chunk_packed.specs.Marks.{Marked, marks_of};
+    ghost use Rattle.ts_chunk_packed.specs.Marks.{MarkState, marks_of};
 
-    ghost Value = { List Marked };
+    ghost Value = { List MarkState };
 
     ghost view = { λ l. marks_of l.marks };
 }
@@ -34,7 +34,7 @@ impl LateMarks {
     }
 
     /// No marks yet, with capacity for all marks of a chunk of `limit` bytes.
-    pub fn with_room(alloc: Global, limit: u32) -> Result<LateMarks, AllocError>
+    pub fn with_reserved(alloc: Global, limit: u32) -> Result<LateMarks, AllocError>
         ensures { IfOk result (λ ms. (ps : List Point) → AreMarks ps ms) }
     {
         let marks = Box::new(alloc, Marks::new(alloc, limit)?)?;
@@ -43,8 +43,9 @@ impl LateMarks {
 
     /// Sets a mark after all samples of the chunk, if there is capacity and one is due. Allocates nothing.
     #[inline(always)]
-    pub fn set(&mut self, context: &Context, place: Offset)
-        ensures { (ps : List Point) → context.now ≡ state_from begin ps → EndsAt ps place.at place.count → AreMarks ps self.old → AreMarks ps self.new }
+    pub fn set(&mut self, context: &Context, place: MarkPosition)
+        ensures { (ps : List Point) → context.now ≡ state_from begin ps → EndsAt ps place.at place.count
+            → AreMarks ps self.old → AreMarks ps self.new }
     {
         let Some(marks) = &mut self.marks else {
             return;
@@ -76,7 +77,8 @@ impl LateMarks {
 
     /// Copies the marks of `others` that come after at most `count` samples.
     pub fn keep_first(&mut self, others: &LateMarks, count: u32)
-        ensures { (ps : List Point) → AreMarks ps others.now → count ≤ length ps → AreMarks (take count ps) self.old → AreMarks (take count ps) self.new }
+        ensures { (ps : List Point) → AreMarks ps others.now → count ≤ length ps → AreMarks (take count ps) self.old
+            → AreMarks (take count ps) self.new }
     {
         let Some(others) = &others.marks else {
             return;
@@ -88,8 +90,10 @@ impl LateMarks {
     }
 
     /// Copies the marks of `others` after position `from`, moved to position `to`, where the same samples now start.
-    pub fn keep_moved(&mut self, others: &LateMarks, from: Offset, to: Offset)
-        ensures { (ps qs rest : List Point) → EndsAt ps from.at from.count → EndsAt qs to.at to.count → state_from begin ps ≡ state_from begin qs → AreMarks (ps ++ rest) others.now → AreMarks (qs ++ rest) self.old → AreMarks (qs ++ rest) self.new }
+    pub fn keep_moved(&mut self, others: &LateMarks, from: MarkPosition, to: MarkPosition)
+        ensures { (ps qs rest : List Point) → EndsAt ps from.at from.count → EndsAt qs to.at to.count
+            → state_from begin ps ≡ state_from begin qs → AreMarks (ps ++ rest) others.now
+            → AreMarks (qs ++ rest) self.old → AreMarks (qs ++ rest) self.new }
     {
         let Some(others) = &others.marks else {
             return;

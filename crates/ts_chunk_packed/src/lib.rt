@@ -5,14 +5,14 @@
 
 mod chunk;
 mod coding;
+mod concatenation;
 mod context;
+mod decoder;
+mod interval_scan;
 mod late_marks;
 mod mark;
 mod marks;
-mod number;
-mod rest;
-mod splicing;
-mod walk;
+mod varint;
 mod zigzag;
 
 pub use chunk::PackedChunk;

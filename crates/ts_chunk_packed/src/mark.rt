@@ -7,7 +7,7 @@ use ts_sample::Sample;
 
 /// A position in a chunk: how many bytes and samples are in front of it.
 #[derive(Clone, Copy)]
-pub struct Offset {
+pub struct MarkPosition {
     pub at: u32,
     pub count: u32,
 }
@@ -17,15 +17,15 @@ pub struct Offset {
 pub struct Mark {
     last: Sample,
     step: u64,
-    place: Offset,
+    place: MarkPosition,
 }
 
 impl Model for Mark {
     ghost use Rattle.std.specs.Prelude.{◌≤◌, pos, true};
     ghost use Rattle.ts_spec.specs.Sample.{MAX_TIME};
-    ghost use Rattle.ts_chunk_packed.specs.Marks.{Marked};
+    ghost use Rattle.ts_chunk_packed.specs.Marks.{MarkState};
 
-    ghost Value = { Marked };
+    ghost Value = { MarkState };
 
     ghost view = { λ m. record {
       state = record { before = m.last; step = pos m.step; begun = true };
@@ -38,7 +38,7 @@ impl Model for Mark {
 
 impl Mark {
     /// A mark at `place`, after samples with this context. `None` if there are no samples.
-    pub fn after(context: &Context, place: Offset) -> Option<Mark>
+    pub fn after(context: &Context, place: MarkPosition) -> Option<Mark>
         ensures state { IfSome result (λ m. m.state ≡ context.now) }
         ensures at { IfSome result (λ m. m.at ≡ place.at) }
         ensures count { IfSome result (λ m. m.count ≡ place.count) }
@@ -89,7 +89,7 @@ impl Mark {
     }
 
     /// The mark as far after `to` as this one is after `from`. `None` if it is not after `from`.
-    pub fn moved(&self, from: Offset, to: Offset) -> Option<Mark>
+    pub fn moved(&self, from: MarkPosition, to: MarkPosition) -> Option<Mark>
         ensures state { IfSome result (λ m. m.state ≡ self.now.state) }
         ensures past { IfSome result (λ _. from.count ≤ self.now.count) }
         ensures at { IfSome result (λ m. m.at + from.at ≡ self.now.at + to.at) }
@@ -104,7 +104,7 @@ impl Mark {
         Some(Mark {
             last: self.last,
             step: self.step,
-            place: Offset { at, count },
+            place: MarkPosition { at, count },
         })
     }
 }

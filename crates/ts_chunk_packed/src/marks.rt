@@ -2,11 +2,11 @@
 // are affects only speed.
 ghost use Rattle.std.specs.Prelude.{◌≡◌, ◌<◌, ◌≤◌, ◌*◌, List, ◌++◌, take, length, IfOk, IfSome};
 ghost use Rattle.ts_spec.specs.Sample.{Point};
-ghost use Rattle.ts_chunk_packed.specs.Marks.{Marked, IsMark, AreMarks, EndsAt};
+ghost use Rattle.ts_chunk_packed.specs.Marks.{MarkState, IsMark, AreMarks, EndsAt};
 ghost use Rattle.ts_chunk_packed.specs.Packed.{begin, packed, state_from};
 
 use crate::context::Context;
-use crate::mark::{Mark, Offset};
+use crate::mark::{Mark, MarkPosition};
 use std::alloc::{AllocError, Global};
 use std::marker::Model;
 
@@ -23,9 +23,9 @@ pub struct Marks {
 
 impl Model for Marks {
     ghost use Rattle.std.specs.Prelude.{List};
-    ghost use Rattle.ts_chunk_packed.specs.Marks.{Marked};
+    ghost use Rattle.ts_chunk_packed.specs.Marks.{MarkState};
 
-    ghost Value = { List Marked };
+    ghost Value = { List MarkState };
 
     ghost view = { λ m. m.list.items };
 
@@ -69,8 +69,9 @@ impl Marks {
 
     /// Sets a mark after all samples of the chunk, if one is due. Allocates nothing.
     #[inline(always)]
-    pub fn set(&mut self, context: &Context, place: Offset)
-        ensures { (ps : List Point) → context.now ≡ state_from begin ps → EndsAt ps place.at place.count → AreMarks ps self.old → AreMarks ps self.new }
+    pub fn set(&mut self, context: &Context, place: MarkPosition)
+        ensures { (ps : List Point) → context.now ≡ state_from begin ps → EndsAt ps place.at place.count
+            → AreMarks ps self.old → AreMarks ps self.new }
     {
         if self.due <= place.at {
             if let Some(mark) = Mark::after(context, place) {
@@ -95,7 +96,8 @@ impl Marks {
 
     /// Copies the marks of `others` that come after at most `count` samples.
     pub fn keep_first(&mut self, others: &Marks, count: u32)
-        ensures { (ps : List Point) → AreMarks ps others.now → count ≤ length ps → AreMarks (take count ps) self.old → AreMarks (take count ps) self.new }
+        ensures { (ps : List Point) → AreMarks ps others.now → count ≤ length ps → AreMarks (take count ps) self.old
+            → AreMarks (take count ps) self.new }
     {
         for index in 0..others.list.len() {
             self.keep_within(&others.list[index], count);
@@ -104,7 +106,8 @@ impl Marks {
 
     // Copies `mark` if it comes after at most `count` samples.
     fn keep_within(&mut self, mark: &Mark, count: u32)
-        ensures { (ps : List Point) → IsMark ps mark.now → count ≤ length ps → AreMarks (take count ps) self.old → AreMarks (take count ps) self.new }
+        ensures { (ps : List Point) → IsMark ps mark.now → count ≤ length ps → AreMarks (take count ps) self.old
+            → AreMarks (take count ps) self.new }
     {
         if mark.count() <= count {
             self.keep(mark.copy());
@@ -112,8 +115,10 @@ impl Marks {
     }
 
     /// Copies the marks of `others` after position `from`, moved to position `to`, where the same samples now start.
-    pub fn keep_moved(&mut self, others: &Marks, from: Offset, to: Offset)
-        ensures { (ps qs rest : List Point) → EndsAt ps from.at from.count → EndsAt qs to.at to.count → state_from begin ps ≡ state_from begin qs → AreMarks (ps ++ rest) others.now → AreMarks (qs ++ rest) self.old → AreMarks (qs ++ rest) self.new }
+    pub fn keep_moved(&mut self, others: &Marks, from: MarkPosition, to: MarkPosition)
+        ensures { (ps qs rest : List Point) → EndsAt ps from.at from.count → EndsAt qs to.at to.count
+            → state_from begin ps ≡ state_from begin qs → AreMarks (ps ++ rest) others.now
+            → AreMarks (qs ++ rest) self.old → AreMarks (qs ++ rest) self.new }
     {
         for index in 0..others.list.len() {
             self.keep_past(&others.list[index], from, to);
@@ -121,8 +126,10 @@ impl Marks {
     }
 
     // Copies `mark`, moved from `from` to `to`, if it is after `from`.
-    fn keep_past(&mut self, mark: &Mark, from: Offset, to: Offset)
-        ensures { (ps qs rest : List Point) → EndsAt ps from.at from.count → EndsAt qs to.at to.count → state_from begin ps ≡ state_from begin qs → IsMark (ps ++ rest) mark.now → AreMarks (qs ++ rest) self.old → AreMarks (qs ++ rest) self.new }
+    fn keep_past(&mut self, mark: &Mark, from: MarkPosition, to: MarkPosition)
+        ensures { (ps qs rest : List Point) → EndsAt ps from.at from.count → EndsAt qs to.at to.count
+            → state_from begin ps ≡ state_from begin qs → IsMark (ps ++ rest) mark.now → AreMarks (qs ++ rest) self.old
+            → AreMarks (qs ++ rest) self.new }
     {
         if let Some(moved) = mark.moved(from, to) {
             self.keep(moved);

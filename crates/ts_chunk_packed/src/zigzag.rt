@@ -34,7 +34,7 @@ pub fn apart_wide(from: i128, to: i128) -> u128
 
 /// `from` plus a zigzag-coded difference, for times and rule counts.
 #[inline(always)]
-pub fn ahead(from: u64, difference: u64) -> u64
+pub fn add_delta(from: u64, difference: u64) -> u64
     requires least { pos 0 ≤ℤ (pos from +ℤ unzigzag difference) }
     requires most { (pos from +ℤ unzigzag difference) <ℤ pos (2 ^ 63) }
     ensures { pos result ≡ pos from +ℤ unzigzag difference }
@@ -49,7 +49,7 @@ pub fn ahead(from: u64, difference: u64) -> u64
 
 /// `from` plus a zigzag-coded difference of at most 64 bits.
 #[inline(always)]
-pub fn ahead_near(from: i128, difference: u64) -> i128
+pub fn add_narrow(from: i128, difference: u64) -> i128
     requires { unsigned_abs from ≤ 10 ^ 24 }
     ensures { result ≡ from +ℤ unzigzag difference }
 {
@@ -67,7 +67,7 @@ fn signed(number: u64) -> i64
 
 /// `from` plus a zigzag-coded difference, for values.
 #[inline(always)]
-pub fn ahead_wide(from: i128, difference: u128) -> i128
+pub fn add_wide(from: i128, difference: u128) -> i128
     requires from { unsigned_abs from ≤ 10 ^ 24 }
     requires difference { difference < 2 ^ 120 }
     ensures { result ≡ from +ℤ unzigzag difference }

@@ -11,8 +11,8 @@ use Rattle.std.proofs.lemmas.List.{take_at, drop_at}
 use borrow.Rule.Slice.PartMut.{put_mid}
 use Rattle.ts_spec.specs.Sample.{Point}
 use Rattle.ts_spec.specs.Value.{bound}
-use Rattle.ts_sample.specs.Sample.{IsFine}
-use Rattle.ts_sample.specs.Chunk.{AreFine}
+use Rattle.ts_sample.specs.Sample.{IsInBounds}
+use Rattle.ts_sample.specs.Chunk.{AreInBounds}
 use Rattle.ts_chunk_plain.specs.Plain.{bytes_of, plain, sample_of, decoded, samples_of}
 use Rattle.ts_chunk_plain.specs.Laws.{length-bytes_of, length-plain}
 
@@ -47,7 +47,7 @@ value_back v small =
     ap (cast_signed w128) (number_back (cast_unsigned w128 v) (unsigned_fits v small)) ∙ to_z-of_z w128 v (fits_signed_from_abs w128 v (omega arith))
 
 -- the sample of a sample's bytes
-pub sample_back : (p : Point) → IsFine p → sample_of (bytes_of p) ≡ p
+pub sample_back : (p : Point) → IsInBounds p → sample_of (bytes_of p) ≡ p
 unfolding sample_of bytes_of
 sample_back p fine =
     let time : from_le_bytes w64 (to_le_bytes w64 p.time) ≡ p.time = from_le_bytes-to_le_bytes_8 p.time (omega (arith, fine.time)) in
@@ -55,7 +55,7 @@ sample_back p fine =
     let made : from_le_bytes w32 (to_le_bytes w32 p.made) ≡ p.made = from_le_bytes-to_le_bytes_4 p.made fine.made in
     λ i. record { time = time i; value = value i; made = made i }
 
-samples_first : (ps : List Point) (rest : List ℕ) → AreFine ps → decoded (length ps) (plain ps ++ rest) ≡ ps
+samples_first : (ps : List Point) (rest : List ℕ) → AreInBounds ps → decoded (length ps) (plain ps ++ rest) ≡ ps
 unfolding decoded
 samples_first [] rest fine = refl
 samples_first (p ∷ ps) rest fine =
@@ -67,10 +67,10 @@ samples_first (p ∷ ps) rest fine =
     λ i. first i ∷ (ap (λ (l : List ℕ). map sample_of (first_chunks 28 (length ps) l)) others ∙ samples_first ps rest fine.1) i
 
 -- The law of the format: what was encoded decodes to the samples, and leaves what follows.
-pub law : (ps : List Point) (rest : List ℕ) → AreFine ps → (decoded (length ps) (plain ps ++ rest) ≡ ps) × (drop (28 * length ps) (plain ps ++ rest) ≡ rest)
+pub law : (ps : List Point) (rest : List ℕ) → AreInBounds ps → (decoded (length ps) (plain ps ++ rest) ≡ ps) × (drop (28 * length ps) (plain ps ++ rest) ≡ rest)
 law ps rest fine = (samples_first ps rest fine, drop_at (plain ps) rest (28 * length ps) (length-plain ps))
 
-pub samples_back : (ps : List Point) → AreFine ps → samples_of (plain ps) ≡ ps
+pub samples_back : (ps : List Point) → AreInBounds ps → samples_of (plain ps) ≡ ps
 unfolding samples_of
 samples_back ps fine =
     let count : length (plain ps) / 28 ≡ length ps = omega (arith, length-plain ps) in

@@ -3,8 +3,8 @@ use Rattle.std.proofs.Common.{◌≡◌, ℕ, ◌+◌, ◌/◌, ◌≤◌, List,
 use Rattle.std.specs.Prelude.{Option, None, Some, nat_le}
 use Rattle.std.specs.Option.{option_or}
 use Rattle.ts_spec.specs.Sample.{Point, first_of, last_of}
-use Rattle.ts_sample.specs.Sample.{IsFine}
-use Rattle.ts_sample.specs.Chunk.{AreFine, IsChunk, IsLimit, IsPast}
+use Rattle.ts_sample.specs.Sample.{IsInBounds}
+use Rattle.ts_sample.specs.Chunk.{AreInBounds, IsChunk, IsLimit, IsPast}
 use Rattle.ts_sample.proofs.Lists.{fine-append, ascending-push, last-push}
 use Rattle.ts_chunk_plain.specs.Chunk.{Samples, IsPlain}
 use Rattle.ts_chunk_plain.specs.Laws.{length-bytes_of, length-plain}
@@ -44,14 +44,14 @@ module _ (written : List ℕ) (are : written ≡ plain (samples_of written)) whe
   fits_more {limit} is p = ap (λ n. nat_le n limit) (one_more p) ∙ ap (λ (x : Samples). nat_le (length (plain (x.list ++ p ∷ []))) x.limit) is
 
 -- the bytes of a sample past the last one make a chunk of its samples and that one
-module _ {limit capacity grown : ℕ} {written : List ℕ} {begin end : Option Point} (p : Point) (was : IsPlain limit capacity written begin end) (fine : IsFine p)
+module _ {limit capacity grown : ℕ} {written : List ℕ} {begin end : Option Point} (p : Point) (was : IsPlain limit capacity written begin end) (fine : IsInBounds p)
     (past : IsPast (last_of (samples_of written)) p.time) (more : capacity ≤ grown) (fits : length written + 28 ≤ limit) where
   both : written ++ bytes_of p ≡ plain (samples_of written ++ p ∷ [])
   both =
       ap (λ (l : List ℕ). l ++ bytes_of p) was.bytes ∙ ap (λ (l : List ℕ). plain (samples_of written) ++ l) (sym (append-nil (bytes_of p)))
       ∙ sym (plain-append (samples_of written) (p ∷ []))
 
-  all_fine : AreFine (samples_of written ++ p ∷ [])
+  all_fine : AreInBounds (samples_of written ++ p ∷ [])
   all_fine = fine-append (samples_of written) (p ∷ []) was.chunk.fine (fine, tt)
 
   pub list-pushed : samples_of (written ++ bytes_of p) ≡ samples_of written ++ p ∷ []

@@ -5,7 +5,7 @@ use Rattle.std.specs.Simd.{first_chunks}
 use Rattle.std.proofs.lemmas.List.{length-drop, length-map}
 use Rattle.ts_spec.specs.Sample.{Point, IsAscending, at_times, between}
 use Rattle.ts_spec.proofs.Samples.{ascending-times}
-use Rattle.ts_sample.specs.Chunk.{AreFine}
+use Rattle.ts_sample.specs.Chunk.{AreInBounds}
 use Rattle.ts_sample.proofs.Between.{filter-filter}
 use Rattle.ts_sample.proofs.Lists.{fine-times}
 use Rattle.ts_chunk_plain.specs.Plain.{sample_of, decoded, samples_of}
@@ -26,8 +26,8 @@ module _ (from : ℕ) (bs : List (List ℕ)) (start : ℕ) (after : map sample_o
   pub ascending_there : IsAscending (map sample_of bs) → IsAscending (map sample_of (take (length bs - start) (drop start bs)))
   ascending_there rises = subst IsAscending (sym from_there) (ascending-times (nat_le from) (map sample_of bs) rises)
 
-  pub fine_there : AreFine (map sample_of bs) → AreFine (map sample_of (take (length bs - start) (drop start bs)))
-  fine_there fine = subst AreFine (sym from_there) (fine-times (nat_le from) (map sample_of bs) fine)
+  pub fine_there : AreInBounds (map sample_of bs) → AreInBounds (map sample_of (take (length bs - start) (drop start bs)))
+  fine_there fine = subst AreInBounds (sym from_there) (fine-times (nat_le from) (map sample_of bs) fine)
 
   -- those of them that are up to a time are those of the interval
   pub interval : (to : ℕ) (list : List Point) → map sample_of bs ≡ list → at_times (λ t. nat_le t to) (map sample_of (take (length bs - start) (drop start bs))) ≡ between from to list

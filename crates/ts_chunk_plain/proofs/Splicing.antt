@@ -4,8 +4,8 @@ use Rattle.std.specs.Prelude.{Option, Some, nat_lt}
 use Rattle.std.proofs.lemmas.List.{length-take, length-drop, length-map, take-map, drop-map, take_at, drop_at, take-append-drop}
 use Rattle.ts_spec.specs.Sample.{Point, IsAscending, at_times, first_of, last_of, later_or, put}
 use Rattle.ts_spec.proofs.Samples.{ascending-put}
-use Rattle.ts_sample.specs.Sample.{IsFine}
-use Rattle.ts_sample.specs.Chunk.{AreFine, IsChunk}
+use Rattle.ts_sample.specs.Sample.{IsInBounds}
+use Rattle.ts_sample.specs.Chunk.{AreInBounds, IsChunk}
 use Rattle.ts_sample.proofs.Lists.{fine-put}
 use Rattle.ts_chunk_plain.specs.Chunk.{Samples, IsPlain}
 use Rattle.ts_chunk_plain.specs.Laws.{length-plain}
@@ -111,10 +111,10 @@ module _ {limit capacity : ℕ} {written : List ℕ} {begin end : Option Point} 
     too_long more = omega (arith, long, length-plain (put p now.list), ap (λ (x : Samples). x.limit) is)
 
     -- the bytes before the place, its own and those after it make a chunk of the list with the sample
-    module _ (fine : IsFine p) {front back after : List ℕ} (front_is : front ≡ plain (take start now.list)) (back_is : back ≡ plain (drop stop now.list))
+    module _ (fine : IsInBounds p) {front back after : List ℕ} (front_is : front ≡ plain (take start now.list)) (back_is : back ≡ plain (drop stop now.list))
         (after_is : after ≡ front ++ (bytes_of p ++ back)) where
-      all_fine : AreFine (put p now.list)
-      all_fine = fine-put p now.list fine (subst AreFine list_is was.chunk.fine)
+      all_fine : AreInBounds (put p now.list)
+      all_fine = fine-put p now.list fine (subst AreInBounds list_is was.chunk.fine)
 
       spliced_bytes : after ≡ plain (put p now.list)
       spliced_bytes =

@@ -6,7 +6,7 @@ use Rattle.std.proofs.lemmas.List.{get_or-map, length-map}
 use Rattle.std.proofs.lemmas.Bool.Decides.{nat_tests}
 use Rattle.std.proofs.Math.Seq.{drop-cons}
 use Rattle.ts_spec.specs.Sample.{Point, IsAfter, IsAscending, at_times}
-use Rattle.ts_sample.specs.Chunk.{AreFine}
+use Rattle.ts_sample.specs.Chunk.{AreInBounds}
 use Rattle.ts_sample.specs.Visit.{visited}
 use Rattle.ts_sample.proofs.Parted.{rising, parted, filter_alike, not_before, not_past}
 use Rattle.ts_chunk_plain.specs.Plain.{sample_of}
@@ -18,7 +18,7 @@ upto to ps = at_times (λ t. nat_le t to) ps
 -- What holds after some pieces: the walk goes on over the rest as it went over all, with a step for each sample so far.
 pub record Walked {V : Type 0} (step : V → Point → V) (places : V → ℕ) (to : ℕ) (begin now : V) (ps rest : List Point) (from steps count : ℕ) : Type 0 where
   pub ascending : IsAscending rest
-  pub fine : AreFine rest
+  pub fine : AreInBounds rest
   pub visited : visited step now (upto to rest) ≡ visited step begin (upto to ps)
   pub room : length (upto to rest) ≤ places now
   pub counted : from + length (upto to ps) ≤ steps + length (upto to rest)

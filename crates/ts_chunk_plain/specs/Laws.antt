@@ -3,7 +3,7 @@ use Rattle.std.specs.Prelude.{◌≡◌, ◌*◌, ◌≤◌, List, [], ◌∷◌
 use Rattle.std.proofs.Common.{refl, arith, length-append}
 use Rattle.ts_spec.specs.Sample.{Point}
 use Rattle.ts_sample.specs.Chunk.{least_limit}
-use Rattle.ts_sample.specs.Sample.{IsFine}
+use Rattle.ts_sample.specs.Sample.{IsInBounds}
 use Rattle.ts_chunk_plain.specs.Plain.{bytes_of, plain}
 
 -- a sample takes 28 bytes
@@ -25,5 +25,5 @@ pub no_fewer : (ps : List Point) (p : Point) → length (plain ps) ≤ length (p
 no_fewer ps p = omega (arith, length-plain ps, length-plain (ps ++ p ∷ []), length-append ps (p ∷ []))
 
 -- a single sample fits in a chunk of any allowed limit
-pub one_within : (p : Point) → IsFine p → length (plain (p ∷ [])) ≤ least_limit
+pub one_within : (p : Point) → IsInBounds p → length (plain (p ∷ [])) ≤ least_limit
 one_within p fine = omega (arith, length-plain (p ∷ []))

@@ -4,7 +4,7 @@ ghost use Rattle.ts_chunk_plain.specs.Plain.{plain};
 
 mod parts;
 
-use crate::pieces::{WIDTH, decode, encode, joined, place_of, place_past, walk};
+use crate::pieces::{SAMPLE_BYTES, decode, encode, joined, lower_bound, scan_pieces, upper_bound};
 use std::alloc::{AllocError, Global};
 use std::marker::Model;
 use std::sync::ledger::Ledger;
@@ -65,7 +65,7 @@ impl Chunk for PlainChunk {
     }
 
     fn len(&self) -> usize {
-        self.bytes.len() / WIDTH
+        self.bytes.len() / SAMPLE_BYTES
     }
 
     fn first(&self) -> Option<Sample> {
@@ -86,8 +86,8 @@ impl Chunk for PlainChunk {
 
     fn scan<V: Visit, L: Ledger>(&self, from: u64, to: u64, visit: &mut V, steps: &mut Steps<L>) {
         let pieces = self.pieces();
-        let start = place_of(pieces, from);
-        walk(&pieces[start..], to, visit, steps);
+        let start = lower_bound(pieces, from);
+        scan_pieces(&pieces[start..], to, visit, steps);
     }
 
     fn start() -> usize {
@@ -95,7 +95,7 @@ impl Chunk for PlainChunk {
     }
 
     fn place_from<L: Ledger>(&self, time: u64, _steps: &mut Steps<L>) -> usize {
-        place_of(self.pieces(), time)
+        lower_bound(self.pieces(), time)
     }
 
     fn read<L: Ledger>(&self, place: &mut usize, steps: &mut Steps<L>) -> Option<Sample> {
@@ -106,7 +106,7 @@ impl Chunk for PlainChunk {
     }
 
     fn fits(&self, _sample: &Sample) -> bool {
-        self.bytes.len() + WIDTH <= self.limit as usize
+        self.bytes.len() + SAMPLE_BYTES <= self.limit as usize
     }
 
     fn try_append(&mut self, sample: &Sample) -> bool {
@@ -128,9 +128,9 @@ impl Chunk for PlainChunk {
     ) -> Result<Option<PlainChunk>, AllocError> {
         let limit = self.limit;
         let pieces = self.pieces();
-        let start = place_of(pieces, sample.time);
-        let end = place_past(pieces, sample.time);
-        if (start + 1 + (pieces.len() - end)) * WIDTH > limit as usize {
+        let start = lower_bound(pieces, sample.time);
+        let end = upper_bound(pieces, sample.time);
+        if (start + 1 + (pieces.len() - end)) * SAMPLE_BYTES > limit as usize {
             return Ok(None);
         }
         sample.known();

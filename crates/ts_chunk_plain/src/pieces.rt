@@ -1,8 +1,8 @@
 // Encoded samples: 28 bytes each, one after another.
 ghost use Rattle.std.specs.Prelude.{◌≡◌, ◌+◌, ◌≤◌, take, drop, nat_lt, nat_le, ◌++◌, map, length, IfOk, vec_capacity};
 ghost use Rattle.ts_chunk_plain.specs.Plain.{bytes_of, sample_of};
-ghost use Rattle.ts_sample.specs.Sample.{IsFine};
-ghost use Rattle.ts_sample.specs.Chunk.{AreFine};
+ghost use Rattle.ts_sample.specs.Sample.{IsInBounds};
+ghost use Rattle.ts_sample.specs.Chunk.{AreInBounds};
 ghost use Rattle.ts_sample.specs.Visit.{visited};
 ghost use Rattle.ts_spec.specs.Sample.{IsAscending, at_times};
 
@@ -11,17 +11,17 @@ use std::sync::ledger::Ledger;
 use ts_sample::{Sample, Steps, Units, Visit};
 
 /// The size of an encoded sample, in bytes.
-pub const WIDTH: usize = 28;
+pub const SAMPLE_BYTES: usize = 28;
 
 /// Encodes a sample: 8 bytes of time, 16 of value and 4 of rule count, little-endian.
-pub fn encode(sample: &Sample) -> [u8; WIDTH]
+pub fn encode(sample: &Sample) -> [u8; SAMPLE_BYTES]
     ensures { result ≡ bytes_of sample.now }
 {
     // Writes each half of the value as one 64-bit word. Writing all 16 bytes at once compiles to single-byte stores.
     let value = sample.value.get().cast_unsigned();
     let low = (value % (1 << 64)) as u64;
     let high = (value >> 64) as u64;
-    let mut piece = [0; WIDTH];
+    let mut piece = [0; SAMPLE_BYTES];
     piece[..8].copy_from_slice(&sample.time.to_le_bytes());
     piece[8..16].copy_from_slice(&low.to_le_bytes());
     piece[16..24].copy_from_slice(&high.to_le_bytes());
@@ -30,15 +30,15 @@ pub fn encode(sample: &Sample) -> [u8; WIDTH]
 }
 
 /// The time of an encoded sample, in milliseconds.
-pub fn time_of(piece: &[u8; WIDTH]) -> u64
+pub fn time_of(piece: &[u8; SAMPLE_BYTES]) -> u64
     ensures { result ≡ (sample_of piece.now).time }
 {
     u64::from_le_bytes(part(piece, 0))
 }
 
 /// Decodes a sample.
-pub fn decode(piece: &[u8; WIDTH]) -> Sample
-    requires { IsFine (sample_of piece.now) }
+pub fn decode(piece: &[u8; SAMPLE_BYTES]) -> Sample
+    requires { IsInBounds (sample_of piece.now) }
     ensures { result ≡ sample_of piece.now }
 {
     Sample {
@@ -49,7 +49,7 @@ pub fn decode(piece: &[u8; WIDTH]) -> Sample
 }
 
 // `N` bytes starting at offset `at`.
-fn part<const N: usize>(piece: &[u8; WIDTH], at: usize) -> [u8; N]
+fn part<const N: usize>(piece: &[u8; SAMPLE_BYTES], at: usize) -> [u8; N]
     requires { at + N ≤ 28 }
     ensures { result ≡ take N (drop at piece.now) }
 {
@@ -59,7 +59,7 @@ fn part<const N: usize>(piece: &[u8; WIDTH], at: usize) -> [u8; N]
 }
 
 /// The number of samples before `time`. Reads only their times.
-pub fn place_of(pieces: &[[u8; WIDTH]], time: u64) -> usize
+pub fn lower_bound(pieces: &[[u8; SAMPLE_BYTES]], time: u64) -> usize
     requires { IsAscending (map sample_of pieces.now) }
     ensures within { result ≤ length pieces.now }
     ensures before { map sample_of (take result pieces.now) ≡ at_times (λ t. nat_lt t time) (map sample_of pieces.now) }
@@ -69,7 +69,7 @@ pub fn place_of(pieces: &[[u8; WIDTH]], time: u64) -> usize
 }
 
 /// The number of samples at or before `time`. Reads only their times.
-pub fn place_past(pieces: &[[u8; WIDTH]], time: u64) -> usize
+pub fn upper_bound(pieces: &[[u8; SAMPLE_BYTES]], time: u64) -> usize
     requires { IsAscending (map sample_of pieces.now) }
     ensures within { result ≤ length pieces.now }
     ensures past { map sample_of (drop result pieces.now) ≡ at_times (nat_lt time) (map sample_of pieces.now) }
@@ -78,14 +78,14 @@ pub fn place_past(pieces: &[[u8; WIDTH]], time: u64) -> usize
 }
 
 /// Passes the samples at or before `to` to `visit`, oldest first. Each sample read is one step.
-pub fn walk<V: Visit, L: Ledger>(
-    pieces: &[[u8; WIDTH]],
+pub fn scan_pieces<V: Visit, L: Ledger>(
+    pieces: &[[u8; SAMPLE_BYTES]],
     to: u64,
     visit: &mut V,
     steps: &mut Steps<L>,
 )
     requires ascending { IsAscending (map sample_of pieces.now) }
-    requires fine { AreFine (map sample_of pieces.now) }
+    requires fine { AreInBounds (map sample_of pieces.now) }
     requires room { length (at_times (λ t. nat_le t to) (map sample_of pieces.now)) ≤ V.room visit.old }
     ensures visited { visit.new ≡ visited V.step visit.old (at_times (λ t. nat_le t to) (map sample_of pieces.now)) }
     ensures counted { steps.old + length (at_times (λ t. nat_le t to) (map sample_of pieces.now)) ≤ steps.new }

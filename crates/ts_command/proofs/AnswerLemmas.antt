@@ -8,7 +8,7 @@ use Rattle.ts_spec.specs.Grammar.{command, makes_list}
 use Rattle.ts_spec.specs.Messages.{fault_message, memory_message}
 use Rattle.ts_command.specs.declared.fault.CommandFault.{CommandFault}
 use Rattle.ts_command.specs.declared.fault.CommandFault.TheVariants as code
-use Rattle.ts_command.specs.Faults.{fault_of, fault_of_word, message, IsFaultOr, SaysOr}
+use Rattle.ts_command.specs.Faults.{fault_of, fault_of_word, message, IsFaultOrMemory, MatchesOrMemory}
 use Rattle.ts_command.specs.Answers.{IsFaultIn}
 use Rattle.ts_command.specs.declared.word_fault.WordFault.{WordFault}
 use Rattle.ts_command.specs.declared.word_fault.ReadFault.{ReadFault}
@@ -45,6 +45,6 @@ fault-or-memory words (code.Memory error) e = inr (record { lists = e; message =
 
 -- what answers the fault of a word says what is wanted, if that is this fault
 pub word-fault-says : {X Y : Type 0} (allowed : Type 0) (view : X → Y) (result : Result X ReadFault) (fault : WordFault) (wanted : Result Y Fault)
-    → IsErrAnd result (λ e. e ≡ read.Word fault) → wanted ≡ Err (fault_of_word fault) → SaysOr allowed view result wanted
+    → IsErrAnd result (λ e. e ≡ read.Word fault) → wanted ≡ Err (fault_of_word fault) → MatchesOrMemory allowed view result wanted
 word-fault-says allowed view (Ok x) fault wanted is says = absurd is
-word-fault-says allowed view (Err e) fault wanted is says = subst (λ (f : ReadFault). IsFaultOr allowed f wanted) (sym is) says
+word-fault-says allowed view (Err e) fault wanted is says = subst (λ (f : ReadFault). IsFaultOrMemory allowed f wanted) (sym is) says

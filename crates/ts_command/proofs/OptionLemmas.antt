@@ -5,7 +5,7 @@ use Rattle.std.specs.Str.{str_eq_ignore_ascii_case}
 use Rattle.ts_spec.specs.Names.{Table, named}
 use Rattle.ts_spec.specs.Settings.{Word, Given, Setting, new_setting, is_known, options, has_name}
 use Rattle.ts_command.specs.declared.option_word.OptionWord.{OptionWord}
-use Rattle.ts_command.specs.Options.{setting_of, is_list, may_list}
+use Rattle.ts_command.specs.Options.{setting_of, is_list, may_have_list}
 use Rattle.ts_command.proofs.TableLemmas.{named-map, each_named, named-so}
 
 -- the options after an option's own words
@@ -35,15 +35,15 @@ has_name-drop name (suc n) [] h = h
 has_name-drop name (suc n) (word ∷ words) h = either-second (str_eq_ignore_ascii_case name word) (has_name name words) (has_name-drop name n words h)
 
 -- if the last words may make a list, all may
-may_list-drop : (names : Option (List ℕ)) (n : ℕ) (words : List Word) → IsTrue (may_list names (drop n words)) → IsTrue (may_list names words)
-may_list-drop None n words h = refl
-may_list-drop (Some name) n words h = has_name-drop name n words h
+may_have_list-drop : (names : Option (List ℕ)) (n : ℕ) (words : List Word) → IsTrue (may_have_list names (drop n words)) → IsTrue (may_have_list names words)
+may_have_list-drop None n words h = refl
+may_have_list-drop (Some name) n words h = has_name-drop name n words h
 
 -- What is given so far goes on to what all options say, added to what was given at first, and if words from here on may make a list, all may
 abbrev pub GoesOn : (known : Table Setting) → (names : Option (List ℕ)) → (first given : Given) → (rest words : List Word) → Type 0
 GoesOn known names first given rest words = record {
   options : options known given 0 rest ≡ options known first 0 words;
-  lists : IsTrue (may_list names rest) → IsTrue (may_list names words);
+  lists : IsTrue (may_have_list names rest) → IsTrue (may_have_list names words);
 }
 
 -- it goes on after an option and its own words
@@ -56,7 +56,7 @@ pub goes-on : (known : Table Setting) (names : Option (List ℕ)) (first given m
     → GoesOn known names first more rest words
 goes-on known names first given more setting word after own rest words so_far chosen mine others said = record {
   options = sym (options-next known given more setting word after own rest chosen mine others said) ∙ so_far.options;
-  lists = λ h. so_far.lists (may_list-drop names 1 (word ∷ after) (may_list-drop names (setting.size (is_known known) after) after (rw others at h)));
+  lists = λ h. so_far.lists (may_have_list-drop names 1 (word ∷ after) (may_have_list-drop names (setting.size (is_known known) after) after (rw others at h)));
 }
 
 -- The option that a word names in a table: what it says, and that a word that names one with a list is this name.

@@ -52,29 +52,29 @@ fault_of_word word.BadFilter = spec.BadFilter
 fault_of_word word.NoPositiveFilter = spec.NoPositiveFilter
 
 -- the result matches the specification's, where `view` maps values of the program to those of the specification
-abbrev pub Says : {X Y : Type 0} → (X → Y) → Result X WordFault → Result Y Fault → Type 0
-Says view (Ok x) wanted = wanted ≡ Ok (view x)
-Says view (Err fault) wanted = wanted ≡ Err (fault_of_word fault)
+abbrev pub Matches : {X Y : Type 0} → (X → Y) → Result X WordFault → Result Y Fault → Type 0
+Matches view (Ok x) wanted = wanted ≡ Ok (view x)
+Matches view (Err fault) wanted = wanted ≡ Err (fault_of_word fault)
 
 -- the same for values that need no mapping
-abbrev pub SaysSame : {X : Type 0} → Result X WordFault → Result X Fault → Type 0
-SaysSame (Ok x) wanted = wanted ≡ Ok x
-SaysSame (Err fault) wanted = wanted ≡ Err (fault_of_word fault)
+abbrev pub MatchesSame : {X : Type 0} → Result X WordFault → Result X Fault → Type 0
+MatchesSame (Ok x) wanted = wanted ≡ Ok x
+MatchesSame (Err fault) wanted = wanted ≡ Err (fault_of_word fault)
 
 -- the error matches the specification's, or is `Memory` where that is allowed
-abbrev pub IsFaultOr : {Y : Type 0} → (allowed : Type 0) → ReadFault → Result Y Fault → Type 0
-IsFaultOr allowed (read.Word fault) wanted = wanted ≡ Err (fault_of_word fault)
-IsFaultOr allowed (read.Memory error) wanted = allowed
+abbrev pub IsFaultOrMemory : {Y : Type 0} → (allowed : Type 0) → ReadFault → Result Y Fault → Type 0
+IsFaultOrMemory allowed (read.Word fault) wanted = wanted ≡ Err (fault_of_word fault)
+IsFaultOrMemory allowed (read.Memory error) wanted = allowed
 
 -- The result matches the specification's under `view`. It may be `Memory` only where that is allowed.
-abbrev pub SaysOr : {X Y : Type 0} → (allowed : Type 0) → (X → Y) → Result X ReadFault → Result Y Fault → Type 0
-SaysOr allowed view (Ok x) wanted = wanted ≡ Ok (view x)
-SaysOr allowed view (Err fault) wanted = IsFaultOr allowed fault wanted
+abbrev pub MatchesOrMemory : {X Y : Type 0} → (allowed : Type 0) → (X → Y) → Result X ReadFault → Result Y Fault → Type 0
+MatchesOrMemory allowed view (Ok x) wanted = wanted ≡ Ok (view x)
+MatchesOrMemory allowed view (Err fault) wanted = IsFaultOrMemory allowed fault wanted
 
 -- the time or value of a sample of TS.MADD, or its error
-abbrev pub said_same : {X : Type 0} → Result X CommandFault → Result X Fault
-said_same (Ok x) = Ok x
-said_same (Err fault) = Err (fault_of fault)
+abbrev pub result_with_fault : {X : Type 0} → Result X CommandFault → Result X Fault
+result_with_fault (Ok x) = Ok x
+result_with_fault (Err fault) = Err (fault_of fault)
 
 -- the text of the error reply
 abbrev pub message : CommandFault → List ℕ

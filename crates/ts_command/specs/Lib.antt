@@ -1,4 +1,4 @@
-pub mod Addition
+pub mod SimpleAdd
 pub mod Answers
 pub mod FaultNames
 pub mod Faults

@@ -57,21 +57,21 @@ table_of set.ManyRanges = many_options
 table_of set.ManyLast = last_options
 
 -- the name of the option with a list, in a set with only one
-abbrev pub lister : OptionSet → Option (List ℕ)
-lister set.Create = Some (codes "LABELS")
-lister set.Alter = Some (codes "LABELS")
-lister set.Add = Some (codes "LABELS")
-lister set.Incr = Some (codes "LABELS")
-lister set.Range = Some (codes "FILTER_BY_TS")
-lister set.ManyRanges = None
-lister set.ManyLast = None
+abbrev pub list_option : OptionSet → Option (List ℕ)
+list_option set.Create = Some (codes "LABELS")
+list_option set.Alter = Some (codes "LABELS")
+list_option set.Add = Some (codes "LABELS")
+list_option set.Incr = Some (codes "LABELS")
+list_option set.Range = Some (codes "FILTER_BY_TS")
+list_option set.ManyRanges = None
+list_option set.ManyLast = None
 
 -- whether a word may name an option with a list
-abbrev pub is_lister : Option (List ℕ) → Word → Bool
-is_lister None word = true
-is_lister (Some name) word = str_eq_ignore_ascii_case name word
+abbrev pub is_list_option : Option (List ℕ) → Word → Bool
+is_list_option None word = true
+is_list_option (Some name) word = str_eq_ignore_ascii_case name word
 
 -- whether these words may contain a list
-abbrev pub may_list : Option (List ℕ) → List Word → Bool
-may_list None words = true
-may_list (Some name) words = has_name name words
+abbrev pub may_have_list : Option (List ℕ) → List Word → Bool
+may_have_list None words = true
+may_have_list (Some name) words = has_name name words

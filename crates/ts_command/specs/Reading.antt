@@ -7,12 +7,12 @@ use Rattle.ts_range.specs.Query.{query_of}
 use Rattle.ts_command.specs.declared.command.Command.{Command}
 use Rattle.ts_command.specs.declared.command.Command.TheVariants.{Create, Alter, Add, Madd, Incr, DelRange, CreateRule, DeleteRule, Range, MRange, Get, MGet, QueryIndex, InfoOf, Ping, Echo, Quit, Drop, Exists}
 use Rattle.ts_command.specs.declared.command.Triple.{Triple}
-use Rattle.ts_command.specs.Faults.{said_same}
+use Rattle.ts_command.specs.Faults.{result_with_fault}
 use Rattle.ts_command.specs.GroupBy.{group_of}
 
 -- a sample of TS.MADD
 abbrev pub triple_of : Triple → spec.Triple
-triple_of t = record { key = t.key; at = said_same t.at; value = said_same t.value }
+triple_of t = record { key = t.key; at = result_with_fault t.at; value = result_with_fault t.value }
 
 -- all samples of TS.MADD
 abbrev pub triples_of : List Triple → List spec.Triple

@@ -4,7 +4,7 @@ ghost use Rattle.std.specs.Prelude.{◌≡◌, drop, IfOk, IsTrue};
 ghost use Rattle.ts_spec.specs.Grammar.{create, add, incr, del_range, range};
 ghost use Rattle.ts_spec.specs.SeriesOptions.{has_labels};
 ghost use Rattle.ts_command.specs.Answers.{HasTime};
-ghost use Rattle.ts_command.specs.Faults.{Says, SaysOr};
+ghost use Rattle.ts_command.specs.Faults.{Matches, MatchesOrMemory};
 ghost use Rattle.ts_command.specs.Forms.{signed_by};
 ghost use Rattle.ts_command.specs.Reading.{command_of};
 ghost use Rattle.ts_spec.specs.Ranges.{has_list};
@@ -39,7 +39,8 @@ impl Sign {
 }
 
 pub(crate) fn read_create(mut words: Vec<Word>) -> Result<Command, ReadFault>
-    ensures command { SaysOr (IsTrue (has_labels (drop 1 (drop 1 words.items)))) command_of result (create (drop 1 words.items)) }
+    ensures command { MatchesOrMemory (IsTrue (has_labels (drop 1 (drop 1 words.items)))) command_of result
+        (create (drop 1 words.items)) }
     ensures time { IfOk result HasTime }
 {
     if words.len() != 2 {
@@ -48,12 +49,13 @@ pub(crate) fn read_create(mut words: Vec<Word>) -> Result<Command, ReadFault>
     let alloc = *words.allocator();
     Ok(Command::Create {
         key: words.swap_remove(1),
-        spec: Given::usual_spec(alloc),
+        spec: Given::default_spec(alloc),
     })
 }
 
 pub(crate) fn read_add(mut words: Vec<Word>) -> Result<Command, ReadFault>
-    ensures command { SaysOr (IsTrue (has_labels (drop 3 (drop 1 words.items)))) command_of result (add (drop 1 words.items)) }
+    ensures command { MatchesOrMemory (IsTrue (has_labels (drop 3 (drop 1 words.items)))) command_of result
+        (add (drop 1 words.items)) }
     ensures time { IfOk result HasTime }
 {
     if words.len() != 4 {
@@ -67,12 +69,13 @@ pub(crate) fn read_add(mut words: Vec<Word>) -> Result<Command, ReadFault>
         at,
         value,
         on: None,
-        spec: Given::usual_spec(alloc),
+        spec: Given::default_spec(alloc),
     })
 }
 
 pub(crate) fn read_incr(sign: Sign, mut words: Vec<Word>) -> Result<Command, ReadFault>
-    ensures command { SaysOr (IsTrue (has_labels (drop 2 (drop 1 words.items)))) command_of result (incr (signed_by sign) (drop 1 words.items)) }
+    ensures command { MatchesOrMemory (IsTrue (has_labels (drop 2 (drop 1 words.items)))) command_of result
+        (incr (signed_by sign) (drop 1 words.items)) }
     ensures time { IfOk result HasTime }
 {
     if words.len() != 3 {
@@ -84,12 +87,12 @@ pub(crate) fn read_incr(sign: Sign, mut words: Vec<Word>) -> Result<Command, Rea
         key: words.swap_remove(1),
         change: sign.of(value),
         at: At::Clock,
-        spec: Given::usual_spec(alloc),
+        spec: Given::default_spec(alloc),
     })
 }
 
 pub(crate) fn read_del_range(mut words: Vec<Word>) -> Result<Command, WordFault>
-    ensures command { Says command_of result (del_range (drop 1 words.items)) }
+    ensures command { Matches command_of result (del_range (drop 1 words.items)) }
     ensures time { IfOk result HasTime }
 {
     let [_, _, from, to, ..] = words.as_slice() else {
@@ -105,7 +108,8 @@ pub(crate) fn read_del_range(mut words: Vec<Word>) -> Result<Command, WordFault>
 }
 
 pub(crate) fn read_range(reverse: bool, mut words: Vec<Word>) -> Result<Command, ReadFault>
-    ensures command { SaysOr (IsTrue (has_list (drop 3 (drop 1 words.items)))) command_of result (range reverse (drop 1 words.items)) }
+    ensures command { MatchesOrMemory (IsTrue (has_list (drop 3 (drop 1 words.items)))) command_of result
+        (range reverse (drop 1 words.items)) }
     ensures time { IfOk result HasTime }
 {
     let alloc = *words.allocator();

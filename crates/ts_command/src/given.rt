@@ -12,7 +12,7 @@ use ts_labels::{Change, Filter, Labels, Show, Spec};
 use ts_spec::{At, Encoding, Ignore, Options, Policy};
 
 // The default chunk size, in bytes.
-const USUAL_CHUNK: u32 = 4096;
+const DEFAULT_CHUNK_SIZE: u32 = 4096;
 
 // The option values of a command so far.
 #[derive(Drop)]
@@ -64,14 +64,14 @@ impl Given {
     }
 
     // The default options of a new series.
-    pub(crate) fn usual_spec(alloc: Global) -> Spec
+    pub(crate) fn default_spec(alloc: Global) -> Spec
         ensures { spec_of result ≡ spec nothing }
     {
         Spec {
             options: Options {
                 retention: 0,
                 encoding: Encoding::Compressed,
-                chunk_size: USUAL_CHUNK,
+                chunk_size: DEFAULT_CHUNK_SIZE,
                 policy: Policy::Block,
                 ignore: Ignore::EQUAL,
             },
@@ -87,7 +87,7 @@ impl Given {
             options: Options {
                 retention: self.retention.unwrap_or(0),
                 encoding: self.encoding.unwrap_or(Encoding::Compressed),
-                chunk_size: self.chunk_size.unwrap_or(USUAL_CHUNK),
+                chunk_size: self.chunk_size.unwrap_or(DEFAULT_CHUNK_SIZE),
                 policy: self.policy.unwrap_or(Policy::Block),
                 ignore: self.ignore.unwrap_or(Ignore::EQUAL),
             },

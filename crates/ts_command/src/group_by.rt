@@ -1,7 +1,7 @@
 // Parses GROUPBY.
 ghost use Rattle.std.specs.Prelude.{⊤};
 ghost use Rattle.ts_spec.specs.ManySeries.{label_word, reducer_word, group_by};
-ghost use Rattle.ts_command.specs.Faults.{Says, SaysOr, SaysSame};
+ghost use Rattle.ts_command.specs.Faults.{Matches, MatchesOrMemory, MatchesSame};
 ghost use Rattle.ts_command.specs.Given.{given_of};
 
 use crate::given::Given;
@@ -21,7 +21,7 @@ pub struct GroupBy {
 
 // Parses `label REDUCE reducer`.
 pub(crate) fn add_group(own: &[Word], given: &mut Given) -> Result<(), ReadFault>
-    ensures { SaysOr ⊤ (λ done. given_of given.new) result (group_by.says own.now (given_of given.old)) }
+    ensures { MatchesOrMemory ⊤ (λ done. given_of given.new) result (group_by.says own.now (given_of given.old)) }
 {
     let [label, reduce, reducer, ..] = own else {
         return Err(ReadFault::Word(WordFault::BadOption));
@@ -40,7 +40,7 @@ pub(crate) fn add_group(own: &[Word], given: &mut Given) -> Result<(), ReadFault
 
 #[tactic(auto, unfolding(ts_spec::specs::ManySeries::label_word))]
 fn label_word(word: &Word) -> Result<&Word, WordFault>
-    ensures { Says (λ label. label.now) result (label_word word.now) }
+    ensures { Matches (λ label. label.now) result (label_word word.now) }
 {
     if word.bytes().is_empty() {
         return Err(WordFault::BadLabels);
@@ -50,7 +50,7 @@ fn label_word(word: &Word) -> Result<&Word, WordFault>
 
 #[tactic(auto, unfolding(ts_spec::specs::ManySeries::reducer_word))]
 fn reducer_word(word: &[u8]) -> Result<Reducer, WordFault>
-    ensures { SaysSame result (reducer_word word.now) }
+    ensures { MatchesSame result (reducer_word word.now) }
 {
     match read_reducer(word) {
         Ok(reducer) => Ok(reducer),

@@ -4,11 +4,11 @@ ghost use Rattle.ts_spec.specs.Labels.{with_label};
 ghost use Rattle.ts_spec.specs.Settings.{is_known};
 ghost use Rattle.ts_spec.specs.SeriesOptions.{labels_after, count_pairs};
 ghost use Rattle.ts_labels.specs.Labels.{labelled};
-ghost use Rattle.ts_command.specs.Faults.{SaysOr};
+ghost use Rattle.ts_command.specs.Faults.{MatchesOrMemory};
 ghost use Rattle.ts_command.specs.Options.{table_of};
 
+use crate::list_arguments::split_arguments;
 use crate::option_word::OptionSet;
-use crate::own_words::split_own;
 use crate::word_fault::{ReadFault, WordFault};
 use std::alloc::{AllocError, Global};
 use ts_labels::Labels;
@@ -23,7 +23,7 @@ pub(crate) fn count_pairs(set: OptionSet, words: &[Word]) -> usize
         if set.named(name.bytes()).is_some() {
             return words.len() - rest.len();
         }
-        let (_value, next) = split_own(1, after);
+        let (_value, next) = split_arguments(1, after);
         rest = next;
     }
     words.len()
@@ -31,7 +31,7 @@ pub(crate) fn count_pairs(set: OptionSet, words: &[Word]) -> usize
 
 // Parses pairs of a label and its value.
 pub(crate) fn read_labels(alloc: Global, words: &[Word]) -> Result<Labels, ReadFault>
-    ensures { SaysOr ⊤ (λ labels. labels) result (labels_after [] words.now) }
+    ensures { MatchesOrMemory ⊤ (λ labels. labels) result (labels_after [] words.now) }
 {
     let mut labels = Labels::with_capacity(alloc, words.len() / 2)?;
     let mut rest = words;
@@ -47,7 +47,7 @@ pub(crate) fn read_labels(alloc: Global, words: &[Word]) -> Result<Labels, ReadF
 
 // Sets a label. Fails if the label or its value is empty.
 fn add_label(labels: &mut Labels, name: &Word, value: &Word) -> Result<(), ReadFault>
-    ensures { SaysOr ⊤ (λ done. labels.new) result (labels_after labels.old (name.now ∷ value.now ∷ [])) }
+    ensures { MatchesOrMemory ⊤ (λ done. labels.new) result (labels_after labels.old (name.now ∷ value.now ∷ [])) }
 {
     if name.bytes().is_empty() || value.bytes().is_empty() {
         return Err(ReadFault::Word(WordFault::BadLabels));

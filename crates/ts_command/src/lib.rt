@@ -2,7 +2,6 @@
 //! reference; letter case does not matter.
 #![tactic(auto)]
 
-mod addition;
 mod command;
 mod fault;
 mod forms;
@@ -10,27 +9,28 @@ mod given;
 mod group_by;
 mod ignore_option;
 mod labels_option;
-mod many;
+mod list_arguments;
+mod multi_commands;
 mod names;
 mod option_word;
 mod options;
-mod own_words;
 mod range_given;
 mod range_options;
 mod request;
 mod rule;
-mod small;
+mod simple_add;
+mod simple_commands;
 mod triple;
 mod verb;
 mod with_options;
 mod word_fault;
 mod words;
 
-pub use addition::Addition;
 pub use command::{Command, Triple};
 pub use fault::CommandFault;
 pub use group_by::GroupBy;
 pub use request::read;
+pub use simple_add::SimpleAdd;
 pub use ts_agg::{AggFault, read_reducer};
 pub use ts_bucket::Grid;
 pub use ts_labels::{Change, Filter, Show, Spec};

@@ -1,7 +1,7 @@
 // The names of options, and which options each command accepts.
 ghost use Rattle.std.specs.Prelude.{◌≡◌, option_map, IfSome, IsTrue};
 ghost use Rattle.ts_spec.specs.Names.{named};
-ghost use Rattle.ts_command.specs.Options.{setting_of, table_of, is_list, lister, is_lister};
+ghost use Rattle.ts_command.specs.Options.{setting_of, table_of, is_list, list_option, is_list_option};
 
 use ts_agg::named;
 
@@ -116,7 +116,8 @@ impl OptionSet {
     // The option of this set with this name.
     pub(crate) fn named(self, word: &[u8]) -> Option<OptionWord>
         ensures setting { option_map setting_of result ≡ named (table_of self) word.now }
-        ensures list { IfSome result (λ option. IsTrue (is_list option) → IsTrue (is_lister (lister self) word.now)) }
+        ensures list { IfSome result (λ option. IsTrue (is_list option)
+            → IsTrue (is_list_option (list_option self) word.now)) }
     {
         match self {
             OptionSet::Create => named(&CREATE, word),

@@ -2,16 +2,18 @@
 ghost use Rattle.std.specs.Prelude.{◌≡◌, IfOk, IsTrue};
 ghost use Rattle.ts_spec.specs.Names.{named};
 ghost use Rattle.ts_spec.specs.Settings.{nothing, new_setting, options, count_own, is_known};
-ghost use Rattle.ts_command.specs.Faults.{Says, SaysOr};
+ghost use Rattle.ts_command.specs.Faults.{Matches, MatchesOrMemory};
 ghost use Rattle.ts_command.specs.Given.{given_of};
-ghost use Rattle.ts_command.specs.Options.{setting_of, table_of, is_list, lister, is_lister, may_list};
+ghost use Rattle.ts_command.specs.Options.{setting_of, table_of, is_list, list_option, is_list_option, may_have_list};
 
 use crate::given::Given;
 use crate::group_by::add_group;
 use crate::ignore_option::add_ignore;
 use crate::labels_option::{count_pairs, read_labels};
+use crate::list_arguments::{
+    list_arguments, read_filters, read_names, read_times, single_argument, split_arguments,
+};
 use crate::option_word::{OptionSet, OptionWord};
-use crate::own_words::{own_word, own_words, read_filters, read_names, read_times, split_own};
 use crate::range_options::{add_aggregation, add_align, add_stamp, add_values};
 use crate::word_fault::{ReadFault, WordFault};
 use crate::words::{
@@ -80,8 +82,9 @@ fn count_own(set: OptionSet, words: &[Word]) -> usize
 
 // The option that a word names. Fails if it already has a value.
 fn new_option(set: OptionSet, word: &[u8], given: &Given) -> Result<OptionWord, WordFault>
-    ensures option { Says setting_of result (new_setting (given_of given.now) (named (table_of set) word.now)) }
-    ensures list { IfOk result (λ option. IsTrue (is_list option) → IsTrue (is_lister (lister set) word.now)) }
+    ensures option { Matches setting_of result (new_setting (given_of given.now) (named (table_of set) word.now)) }
+    ensures list { IfOk result (λ option. IsTrue (is_list option)
+        → IsTrue (is_list_option (list_option set) word.now)) }
 {
     match set.named(word) {
         None => Err(WordFault::BadOption),
@@ -97,30 +100,34 @@ fn add_own(
     own: &[Word],
     given: &mut Given,
 ) -> Result<(), ReadFault>
-    ensures { SaysOr (IsTrue (is_list option)) (λ done. given_of given.new) result ((setting_of option).says own.now (given_of given.old)) }
+    ensures { MatchesOrMemory (IsTrue (is_list option)) (λ done. given_of given.new) result
+        ((setting_of option).says own.now (given_of given.old)) }
 {
     match option {
-        OptionWord::Retention => given.retention = Some(retention_word(own_word(own)?)?),
-        OptionWord::Encoding => given.encoding = Some(encoding_word(own_word(own)?)?),
-        OptionWord::ChunkSize => given.chunk_size = Some(chunk_size_word(own_word(own)?)?),
-        OptionWord::DuplicatePolicy => given.policy = Some(policy_word(own_word(own)?)?),
+        OptionWord::Retention => given.retention = Some(retention_word(single_argument(own)?)?),
+        OptionWord::Encoding => given.encoding = Some(encoding_word(single_argument(own)?)?),
+        OptionWord::ChunkSize => given.chunk_size = Some(chunk_size_word(single_argument(own)?)?),
+        OptionWord::DuplicatePolicy => given.policy = Some(policy_word(single_argument(own)?)?),
         OptionWord::Ignore => add_ignore(own, given)?,
-        OptionWord::OnDuplicate => given.on = Some(policy_word(own_word(own)?)?),
-        OptionWord::Timestamp => given.at = Some(at_word(own_word(own)?)?),
+        OptionWord::OnDuplicate => given.on = Some(policy_word(single_argument(own)?)?),
+        OptionWord::Timestamp => given.at = Some(at_word(single_argument(own)?)?),
         OptionWord::Labels => given.labels = Some(read_labels(alloc, own)?),
         OptionWord::Latest => given.latest = true,
-        OptionWord::FilterByTs => given.range.times = Some(read_times(alloc, own_words(own)?)?),
+        OptionWord::FilterByTs => given.range.times = Some(read_times(
+            alloc,
+            list_arguments(own)?,
+        )?),
         OptionWord::FilterByValue => add_values(own, given)?,
-        OptionWord::Count => given.range.count = Some(count_word(own_word(own)?)?),
+        OptionWord::Count => given.range.count = Some(count_word(single_argument(own)?)?),
         OptionWord::Aggregation => add_aggregation(own, given)?,
         OptionWord::Align => add_align(own, given)?,
         OptionWord::BucketTimestamp => add_stamp(own, given)?,
         OptionWord::Empty => given.range.empty = true,
         OptionWord::WithLabels => given.show = Some(Show::All),
         OptionWord::SelectedLabels => {
-            given.show = Some(Show::Selected(read_names(alloc, own_words(own)?)?));
+            given.show = Some(Show::Selected(read_names(alloc, list_arguments(own)?)?));
         }
-        OptionWord::Filter => given.filters = Some(read_filters(alloc, own_words(own)?)?),
+        OptionWord::Filter => given.filters = Some(read_filters(alloc, list_arguments(own)?)?),
         OptionWord::GroupBy => add_group(own, given)?,
     }
     Ok(())
@@ -133,12 +140,13 @@ fn read_options(
     words: &[Word],
     given: &mut Given,
 ) -> Result<(), ReadFault>
-    ensures { SaysOr (IsTrue (may_list (lister set) words.now)) (λ done. given_of given.new) result (options (table_of set) (given_of given.old) 0 words.now) }
+    ensures { MatchesOrMemory (IsTrue (may_have_list (list_option set) words.now)) (λ done. given_of given.new) result
+        (options (table_of set) (given_of given.old) 0 words.now) }
 {
     let mut rest = words;
     while let Some((name, after)) = rest.split_first() {
         let option = new_option(set, name.bytes(), given)?;
-        let (own, next) = split_own(option.size(set, after), after);
+        let (own, next) = split_arguments(option.size(set, after), after);
         add_own(alloc, option, own, given)?;
         rest = next;
     }
@@ -147,7 +155,8 @@ fn read_options(
 
 // The values of options that these words give.
 pub(crate) fn read_given(alloc: Global, set: OptionSet, words: &[Word]) -> Result<Given, ReadFault>
-    ensures { SaysOr (IsTrue (may_list (lister set) words.now)) given_of result (options (table_of set) nothing 0 words.now) }
+    ensures { MatchesOrMemory (IsTrue (may_have_list (list_option set) words.now)) given_of result
+        (options (table_of set) nothing 0 words.now) }
 {
     let mut given = Given::nothing();
     match read_options(alloc, set, words, &mut given) {

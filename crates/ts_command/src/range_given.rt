@@ -30,7 +30,7 @@ impl RangeGiven {
     ghost use Rattle.ts_spec.specs.Settings.{nothing};
     ghost use Rattle.ts_spec.specs.Ranges.{lacks_aggregation, lacks_end, aligned, buckets, query};
     ghost use Rattle.ts_range.specs.Query.{buckets_of, query_of};
-    ghost use Rattle.ts_command.specs.Faults.{Says};
+    ghost use Rattle.ts_command.specs.Faults.{Matches};
     ghost use Rattle.ts_command.specs.Given.{range_given_of};
 
     pub(crate) fn nothing() -> RangeGiven
@@ -109,7 +109,7 @@ impl RangeGiven {
     ) -> Result<Query, WordFault>
         requires first { first ≤ MAX_TIME }
         requires last { last ≤ MAX_TIME }
-        ensures { Says query_of result (query reverse from.now to.now first last (range_given_of self)) }
+        ensures { Matches query_of result (query reverse from.now to.now first last (range_given_of self)) }
     {
         if self.lacks_aggregation() || self.lacks_end(from, to) {
             return Err(WordFault::BadOption);

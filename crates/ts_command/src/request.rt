@@ -2,16 +2,16 @@
 ghost use Rattle.std.specs.Prelude.{◌≡◌, drop, IfOk, IfErr, IsTrue};
 ghost use Rattle.ts_spec.specs.Grammar.{command};
 ghost use Rattle.ts_command.specs.Answers.{HasTime, IsFaultIn};
-ghost use Rattle.ts_command.specs.Faults.{SaysOr};
+ghost use Rattle.ts_command.specs.Faults.{MatchesOrMemory};
 ghost use Rattle.ts_command.specs.Forms.{form_of};
 ghost use Rattle.ts_command.specs.Reading.{command_of};
 
 use crate::command::Command;
 use crate::fault::CommandFault;
 use crate::forms::{Sign, read_add, read_create, read_del_range, read_incr, read_range};
-use crate::many::{read_last_of_many, read_many_ranges, read_query_index};
+use crate::multi_commands::{read_last_of_many, read_many_ranges, read_query_index};
 use crate::rule::{read_create_rule, read_delete_rule};
-use crate::small::{read_drop, read_echo, read_exists, read_get, read_info, read_ping};
+use crate::simple_commands::{read_drop, read_echo, read_exists, read_get, read_info, read_ping};
 use crate::triple::read_madd;
 use crate::verb::Verb;
 use crate::with_options::read_alter;
@@ -44,7 +44,8 @@ pub fn read(words: Vec<Word>) -> Result<Command, CommandFault>
 
 // Parses the words after the command's name.
 fn read_by(verb: Verb, words: Vec<Word>) -> Result<Command, ReadFault>
-    ensures command { SaysOr (IsTrue ((form_of verb).lists (drop 1 words.items))) command_of result ((form_of verb).says (drop 1 words.items)) }
+    ensures command { MatchesOrMemory (IsTrue ((form_of verb).lists (drop 1 words.items))) command_of result
+        ((form_of verb).says (drop 1 words.items)) }
     ensures time { IfOk result HasTime }
 {
     match verb {

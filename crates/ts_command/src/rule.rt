@@ -4,7 +4,7 @@ ghost use Rattle.std.specs.Prelude.{◌≡◌, ◌∷◌, [], drop, IfOk, IfErr}
 ghost use Rattle.std.specs.Vec.Iter.{into_iter_items};
 ghost use Rattle.ts_spec.specs.Grammar.{create_rule, delete_rule, rule_buckets};
 ghost use Rattle.ts_command.specs.Answers.{HasTime};
-ghost use Rattle.ts_command.specs.Faults.{Says};
+ghost use Rattle.ts_command.specs.Faults.{Matches};
 ghost use Rattle.ts_command.specs.Reading.{command_of};
 ghost use Rattle.ts_command.specs.declared.word_fault.WordFault.TheVariants.{Arity};
 
@@ -26,7 +26,7 @@ fn next_word(words: &mut IntoIter<Word>) -> Result<Word, WordFault>
 
 // Parses the aggregator, the bucket duration and the optional alignment of a compaction rule.
 fn read_buckets(source: Word, dest: Word, mut words: IntoIter<Word>) -> Result<Command, WordFault>
-    ensures command { Says command_of result (rule_buckets source dest (into_iter_items words)) }
+    ensures command { Matches command_of result (rule_buckets source dest (into_iter_items words)) }
     ensures time { IfOk result HasTime }
 {
     let name = next_word(&mut words)?;
@@ -47,7 +47,7 @@ fn read_buckets(source: Word, dest: Word, mut words: IntoIter<Word>) -> Result<C
 }
 
 pub(crate) fn read_create_rule(words: Vec<Word>) -> Result<Command, WordFault>
-    ensures command { Says command_of result (create_rule (drop 1 words.items)) }
+    ensures command { Matches command_of result (create_rule (drop 1 words.items)) }
     ensures time { IfOk result HasTime }
 {
     let mut words = words.into_iter();
@@ -62,7 +62,7 @@ pub(crate) fn read_create_rule(words: Vec<Word>) -> Result<Command, WordFault>
 }
 
 pub(crate) fn read_delete_rule(words: Vec<Word>) -> Result<Command, WordFault>
-    ensures command { Says command_of result (delete_rule (drop 1 words.items)) }
+    ensures command { Matches command_of result (delete_rule (drop 1 words.items)) }
     ensures time { IfOk result HasTime }
 {
     let mut words = words.into_iter();

@@ -5,7 +5,7 @@ ghost use Rattle.std.specs.Result.{ForErr, ForOk};
 ghost use Rattle.ts_spec.specs.Grammar.{madd, triples};
 ghost use Rattle.ts_spec.specs.Settings.{IsTime, at_word, value_word};
 ghost use Rattle.ts_command.specs.Answers.{HasTime};
-ghost use Rattle.ts_command.specs.Faults.{SaysOr, IsNoMemory, said_same};
+ghost use Rattle.ts_command.specs.Faults.{MatchesOrMemory, IsNoMemory, result_with_fault};
 ghost use Rattle.ts_command.specs.Reading.{command_of, triple_of, triples_of};
 
 use crate::command::{Command, Triple};
@@ -36,7 +36,7 @@ fn next_triple(words: &mut IntoIter<Word>) -> Option<Triple>
 
 // The time of a sample, or its error.
 fn time_of(word: &[u8]) -> Result<At, CommandFault>
-    ensures answer { said_same result ≡ at_word word.now }
+    ensures answer { result_with_fault result ≡ at_word word.now }
     ensures time { ForOk result IsTime }
     ensures no_memory { ForErr result IsNoMemory }
 {
@@ -48,7 +48,7 @@ fn time_of(word: &[u8]) -> Result<At, CommandFault>
 
 // The value of a sample, or its error.
 fn value_of(word: &[u8]) -> Result<Units, CommandFault>
-    ensures answer { said_same result ≡ value_word word.now }
+    ensures answer { result_with_fault result ≡ value_word word.now }
     ensures no_memory { ForErr result IsNoMemory }
 {
     match value_word(word) {
@@ -70,7 +70,7 @@ fn read_triples(alloc: Global, mut words: IntoIter<Word>) -> Result<Vec<Triple>,
 
 // Parses the whole request, its name included.
 pub(crate) fn read_madd(words: Vec<Word>) -> Result<Command, ReadFault>
-    ensures command { SaysOr ⊤ command_of result (madd (drop 1 words.items)) }
+    ensures command { MatchesOrMemory ⊤ command_of result (madd (drop 1 words.items)) }
     ensures time { IfOk result HasTime }
 {
     let alloc = *words.allocator();

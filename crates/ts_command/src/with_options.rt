@@ -4,7 +4,7 @@ ghost use Rattle.std.specs.Prelude.{drop, IfOk, IsTrue};
 ghost use Rattle.ts_spec.specs.Grammar.{create, alter, add, incr};
 ghost use Rattle.ts_spec.specs.SeriesOptions.{has_labels};
 ghost use Rattle.ts_command.specs.Answers.{HasTime};
-ghost use Rattle.ts_command.specs.Faults.{SaysOr};
+ghost use Rattle.ts_command.specs.Faults.{MatchesOrMemory};
 ghost use Rattle.ts_command.specs.Forms.{signed_by};
 ghost use Rattle.ts_command.specs.Reading.{command_of};
 
@@ -19,7 +19,8 @@ use ts_spec::At;
 
 #[inline(never)]
 pub(crate) fn create_with_options(mut words: Vec<Word>) -> Result<Command, ReadFault>
-    ensures command { SaysOr (IsTrue (has_labels (drop 1 (drop 1 words.items)))) command_of result (create (drop 1 words.items)) }
+    ensures command { MatchesOrMemory (IsTrue (has_labels (drop 1 (drop 1 words.items)))) command_of result
+        (create (drop 1 words.items)) }
     ensures time { IfOk result HasTime }
 {
     let alloc = *words.allocator();
@@ -34,7 +35,8 @@ pub(crate) fn create_with_options(mut words: Vec<Word>) -> Result<Command, ReadF
 }
 
 pub(crate) fn read_alter(mut words: Vec<Word>) -> Result<Command, ReadFault>
-    ensures command { SaysOr (IsTrue (has_labels (drop 1 (drop 1 words.items)))) command_of result (alter (drop 1 words.items)) }
+    ensures command { MatchesOrMemory (IsTrue (has_labels (drop 1 (drop 1 words.items)))) command_of result
+        (alter (drop 1 words.items)) }
     ensures time { IfOk result HasTime }
 {
     let alloc = *words.allocator();
@@ -50,7 +52,8 @@ pub(crate) fn read_alter(mut words: Vec<Word>) -> Result<Command, ReadFault>
 
 #[inline(never)]
 pub(crate) fn add_with_options(mut words: Vec<Word>) -> Result<Command, ReadFault>
-    ensures command { SaysOr (IsTrue (has_labels (drop 3 (drop 1 words.items)))) command_of result (add (drop 1 words.items)) }
+    ensures command { MatchesOrMemory (IsTrue (has_labels (drop 3 (drop 1 words.items)))) command_of result
+        (add (drop 1 words.items)) }
     ensures time { IfOk result HasTime }
 {
     let alloc = *words.allocator();
@@ -71,7 +74,8 @@ pub(crate) fn add_with_options(mut words: Vec<Word>) -> Result<Command, ReadFaul
 
 #[inline(never)]
 pub(crate) fn incr_with_options(sign: Sign, mut words: Vec<Word>) -> Result<Command, ReadFault>
-    ensures command { SaysOr (IsTrue (has_labels (drop 2 (drop 1 words.items)))) command_of result (incr (signed_by sign) (drop 1 words.items)) }
+    ensures command { MatchesOrMemory (IsTrue (has_labels (drop 2 (drop 1 words.items)))) command_of result
+        (incr (signed_by sign) (drop 1 words.items)) }
     ensures time { IfOk result HasTime }
 {
     let alloc = *words.allocator();

@@ -7,7 +7,7 @@ ghost use Rattle.ts_spec.specs.SeriesOptions.{IsChunkSize, retention_word, chunk
 ghost use Rattle.ts_spec.specs.SeriesOptions.{encoding_word};
 ghost use Rattle.ts_spec.specs.Ranges.{count_word, IsDuration, IsAlign, aggregator_word, duration_word, align_word};
 ghost use Rattle.ts_spec.specs.Ranges.{stamp_word};
-ghost use Rattle.ts_command.specs.Faults.{SaysSame};
+ghost use Rattle.ts_command.specs.Faults.{MatchesSame};
 
 use crate::names::{align_named, encoding_named, policy_named, stamp_named};
 use crate::word_fault::WordFault;
@@ -18,7 +18,7 @@ use ts_sample::{MAX_TIME, Units};
 use ts_spec::{Align, At, Encoding, Policy};
 
 // Parses a number of 1 to 19 digits, at most `MAX_TIME`.
-pub(crate) fn number_of(word: &[u8]) -> Option<u64>
+pub(crate) fn parse_number(word: &[u8]) -> Option<u64>
     ensures value { result ≡ number word.now }
     ensures bound { IfSome result (λ n. n ≤ MAX_TIME) }
 {
@@ -36,23 +36,23 @@ pub(crate) fn number_of(word: &[u8]) -> Option<u64>
 }
 
 // The least and the greatest chunk size, in bytes. A chunk size is a multiple of `CHUNK_STEP`.
-const LEAST_CHUNK: u64 = 48;
+const MIN_CHUNK_SIZE: u64 = 48;
 
-const GREATEST_CHUNK: u64 = 1_048_576;
+const MAX_CHUNK_SIZE: u64 = 1_048_576;
 
 const CHUNK_STEP: u64 = 8;
 
 #[tactic(auto, unfolding(ts_spec::specs::Settings::time_word))]
 pub(crate) fn time_word(word: &[u8]) -> Result<u64, WordFault>
-    ensures answer { SaysSame result (time_word word.now) }
+    ensures answer { MatchesSame result (time_word word.now) }
     ensures bound { IfOk result (λ n. n ≤ MAX_TIME) }
 {
-    number_of(word).ok_or(WordFault::BadTimestamp)
+    parse_number(word).ok_or(WordFault::BadTimestamp)
 }
 
 #[tactic(auto, unfolding(ts_spec::specs::Settings::end_word))]
 pub(crate) fn end_word(word: &[u8]) -> Result<u64, WordFault>
-    ensures answer { SaysSame result (end_word word.now) }
+    ensures answer { MatchesSame result (end_word word.now) }
     ensures bound { IfOk result (λ n. n ≤ MAX_TIME) }
 {
     if word == b"-".as_slice() {
@@ -66,7 +66,7 @@ pub(crate) fn end_word(word: &[u8]) -> Result<u64, WordFault>
 
 #[tactic(auto, unfolding(ts_spec::specs::Settings::at_word))]
 pub(crate) fn at_word(word: &[u8]) -> Result<At, WordFault>
-    ensures answer { SaysSame result (at_word word.now) }
+    ensures answer { MatchesSame result (at_word word.now) }
     ensures bound { IfOk result IsTime }
 {
     if word == b"*".as_slice() {
@@ -77,7 +77,7 @@ pub(crate) fn at_word(word: &[u8]) -> Result<At, WordFault>
 
 #[tactic(auto, unfolding(ts_spec::specs::Settings::value_word))]
 pub(crate) fn value_word(word: &[u8]) -> Result<Units, WordFault>
-    ensures answer { SaysSame result (value_word word.now) }
+    ensures answer { MatchesSame result (value_word word.now) }
 {
     match parse(word) {
         Ok(value) => Ok(value),
@@ -87,47 +87,49 @@ pub(crate) fn value_word(word: &[u8]) -> Result<Units, WordFault>
 
 #[tactic(auto, unfolding(ts_spec::specs::SeriesOptions::retention_word))]
 pub(crate) fn retention_word(word: &[u8]) -> Result<u64, WordFault>
-    ensures answer { SaysSame result (retention_word word.now) }
+    ensures answer { MatchesSame result (retention_word word.now) }
     ensures bound { IfOk result (λ n. n ≤ MAX_TIME) }
 {
-    number_of(word).ok_or(WordFault::BadOption)
+    parse_number(word).ok_or(WordFault::BadOption)
 }
 
 #[tactic(auto, unfolding(ts_spec::specs::SeriesOptions::chunk_size_word))]
 pub(crate) fn chunk_size_word(word: &[u8]) -> Result<u32, WordFault>
-    ensures answer { SaysSame result (chunk_size_word word.now) }
+    ensures answer { MatchesSame result (chunk_size_word word.now) }
     ensures bound { IfOk result IsChunkSize }
 {
-    match number_of(word) {
-        Some(n) if n >= LEAST_CHUNK && n <= GREATEST_CHUNK && n % CHUNK_STEP == 0 => Ok(n as u32),
+    match parse_number(word) {
+        Some(n) if n >= MIN_CHUNK_SIZE && n <= MAX_CHUNK_SIZE && n % CHUNK_STEP == 0 => Ok(
+            n as u32,
+        ),
         _ => Err(WordFault::BadChunkSize),
     }
 }
 
 #[tactic(auto, unfolding(ts_spec::specs::Ranges::count_word))]
 pub(crate) fn count_word(word: &[u8]) -> Result<u64, WordFault>
-    ensures { SaysSame result (count_word word.now) }
+    ensures { MatchesSame result (count_word word.now) }
 {
-    number_of(word).ok_or(WordFault::BadOption)
+    parse_number(word).ok_or(WordFault::BadOption)
 }
 
 #[tactic(auto, unfolding(ts_spec::specs::SeriesOptions::policy_word))]
 pub(crate) fn policy_word(word: &[u8]) -> Result<Policy, WordFault>
-    ensures { SaysSame result (policy_word word.now) }
+    ensures { MatchesSame result (policy_word word.now) }
 {
     policy_named(word).ok_or(WordFault::BadPolicy)
 }
 
 #[tactic(auto, unfolding(ts_spec::specs::SeriesOptions::encoding_word))]
 pub(crate) fn encoding_word(word: &[u8]) -> Result<Encoding, WordFault>
-    ensures { SaysSame result (encoding_word word.now) }
+    ensures { MatchesSame result (encoding_word word.now) }
 {
     encoding_named(word).ok_or(WordFault::BadEncoding)
 }
 
 #[tactic(auto, unfolding(ts_spec::specs::Ranges::aggregator_word))]
 pub(crate) fn aggregator_word(word: &[u8]) -> Result<Aggregator, WordFault>
-    ensures { SaysSame result (aggregator_word word.now) }
+    ensures { MatchesSame result (aggregator_word word.now) }
 {
     match read_aggregator(word) {
         Ok(agg) => Ok(agg),
@@ -138,10 +140,10 @@ pub(crate) fn aggregator_word(word: &[u8]) -> Result<Aggregator, WordFault>
 
 #[tactic(auto, unfolding(ts_spec::specs::Ranges::duration_word))]
 pub(crate) fn duration_word(word: &[u8]) -> Result<u64, WordFault>
-    ensures answer { SaysSame result (duration_word word.now) }
+    ensures answer { MatchesSame result (duration_word word.now) }
     ensures bound { IfOk result IsDuration }
 {
-    match number_of(word) {
+    match parse_number(word) {
         Some(n) if n >= 1 && n <= LONGEST => Ok(n),
         _ => Err(WordFault::BadDuration),
     }
@@ -149,13 +151,13 @@ pub(crate) fn duration_word(word: &[u8]) -> Result<u64, WordFault>
 
 #[tactic(auto, unfolding(ts_spec::specs::Ranges::align_word))]
 pub(crate) fn align_word(word: &[u8]) -> Result<Align, WordFault>
-    ensures answer { SaysSame result (align_word word.now) }
+    ensures answer { MatchesSame result (align_word word.now) }
     ensures bound { IfOk result IsAlign }
 {
     if let Some(end) = align_named(word) {
         return Ok(end);
     }
-    match number_of(word) {
+    match parse_number(word) {
         Some(time) => Ok(Align::Time(time)),
         None => Err(WordFault::BadOption),
     }
@@ -163,7 +165,7 @@ pub(crate) fn align_word(word: &[u8]) -> Result<Align, WordFault>
 
 #[tactic(auto, unfolding(ts_spec::specs::Ranges::stamp_word))]
 pub(crate) fn stamp_word(word: &[u8]) -> Result<Stamp, WordFault>
-    ensures { SaysSame result (stamp_word word.now) }
+    ensures { MatchesSame result (stamp_word word.now) }
 {
     stamp_named(word).ok_or(WordFault::BadOption)
 }

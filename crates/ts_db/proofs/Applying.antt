@@ -10,7 +10,7 @@ use Rattle.slab.proofs.SlabLemmas.{ContainsKey-within, Updates-with_value}
 use Rattle.ts_spec.specs.Key.{Key}
 use Rattle.ts_spec.specs.Keyed.{get, with_key}
 use Rattle.ts_spec.specs.State.{Label}
-use Rattle.ts_spec.specs.Kept.{Kept, Keeping}
+use Rattle.ts_spec.specs.StoredSeries.{StoredSeries, StoredKeys}
 use Rattle.ts_spec.proofs.Tidy.{some-same}
 use Rattle.ts_sample.specs.declared.sample.Id.{Id}
 use Rattle.ts_series.specs.History.{History, list_of}
@@ -18,16 +18,16 @@ use Rattle.ts_series.specs.Plan.{Plan, after, IsFor}
 use Rattle.ts_rules.specs.declared.rule.Rule.{Rule}
 use Rattle.ts_db.specs.declared.node.Node.{Node}
 use Rattle.ts_db.specs.declared.store.Store.{Store}
-use Rattle.ts_db.specs.Store.{key_in, kept_node, collected, stock_of, contents_of, Nodes, AreLive, HasLiveLinks, HaveGrids, IsNode, IsStore, IsInOrder, Holds}
+use Rattle.ts_db.specs.Store.{key_in, stored_node, stored_by_key, db_view_of, contents_of, Nodes, AreLive, HasLiveLinks, HaveGrids, IsNode, IsStore, IsInOrder, Holds}
 use Rattle.ts_db.specs.Answering.{node_after, IsReady, IsApplied, IsElsewhere}
-use Rattle.ts_db.specs.Turned.{HasSuch, IsTurned, IsAfter}
-use Rattle.ts_db.proofs.Collecting.{same-names, collected-written}
+use Rattle.ts_db.specs.NodeChanges.{HasNodeWhere, IsNodeChanged, IsAfter}
+use Rattle.ts_db.proofs.Collecting.{same-names, stored_by_key-written}
 use Rattle.ts_db.proofs.Indexing.{contains}
 use Rattle.ts_db.proofs.Storing as storing
 use Rattle.ts_db.proofs.Storing.{names-written, store-written}
 
 -- what a key has that the store holds
-pub there : (s : Store) (store : IsInOrder s) (key : Key) (id : Id) (n : Node) → Holds s key id n → get key (stock_of s).keys ≡ Some (kept_node s.nodes n)
+pub there : (s : Store) (store : IsInOrder s) (key : Key) (id : Id) (n : Node) → Holds s key id n → get key (db_view_of s).keys ≡ Some (stored_node s.nodes n)
 there s store key id n holds = storing.there s.limits s.nodes s.keys.entries store key id n holds.number holds.node
 
 -- ---- another node with the same id and key
@@ -48,11 +48,11 @@ module _ (s : Store) (store : IsInOrder s) (key : Key) (id : Id) (n changed : No
   store-changed links sound = store-written s.limits s.nodes s.keys.entries store (slab.with_value s.nodes id.0 changed) key id n changed holds.number holds.node change as_many name links sound
 
   -- and only the stored data of its key changes
-  pub keys-changed : HasLiveLinks s.nodes changed → collected (slab.with_value s.nodes id.0 changed) s.keys.entries ≡ with_key key (kept_node s.nodes changed) (collected s.nodes s.keys.entries)
+  pub keys-changed : HasLiveLinks s.nodes changed → stored_by_key (slab.with_value s.nodes id.0 changed) s.keys.entries ≡ with_key key (stored_node s.nodes changed) (stored_by_key s.nodes s.keys.entries)
   keys-changed links =
-      collected-written s.nodes (slab.with_value s.nodes id.0 changed) s.keys.entries key id changed (storing.apart s.limits s.nodes s.keys.entries store) holds.number change
+      stored_by_key-written s.nodes (slab.with_value s.nodes id.0 changed) s.keys.entries key id changed (storing.apart s.limits s.nodes s.keys.entries store) holds.number change
       (storing.others-written s.limits s.nodes s.keys.entries store (slab.with_value s.nodes id.0 changed) id.0 n changed holds.node change name)
-      ∙ ap (λ (d : Kept). with_key key d (collected s.nodes s.keys.entries))
+      ∙ ap (λ (d : StoredSeries). with_key key d (stored_by_key s.nodes s.keys.entries))
       (same-names s.nodes (key_in (slab.with_value s.nodes id.0 changed)) (key_in s.nodes) changed links
       (λ j x. names-written s.nodes (slab.with_value s.nodes id.0 changed) id.0 n changed holds.node change name j))
 
@@ -67,7 +67,7 @@ module _ (s : Store) (store : IsInOrder s) (key : Key) (id : Id) (n changed : No
 
 -- ---- a node that changed by a relation, and kept its key
 
-pub elsewhere-turned : (s : Store) (store : IsInOrder s) (id : Id) (new : Nodes) {by : (was now : Node) → Type 0} (t : IsTurned s.nodes new id by) → t.now.key ≡ t.was.key → IsElsewhere s (record s { nodes = new }) id
+pub elsewhere-turned : (s : Store) (store : IsInOrder s) (id : Id) (new : Nodes) {by : (was now : Node) → Type 0} (t : IsNodeChanged s.nodes new id by) → t.now.key ≡ t.was.key → IsElsewhere s (record s { nodes = new }) id
 elsewhere-turned s store id new t name =
     subst (λ (nodes : Nodes). IsElsewhere s (record s { nodes = nodes }) id) (sym t.turned)
     (elsewhere-changed s store t.was.key id t.was t.now (record { number = store.owned id.0 t.was t.there; node = t.there }) name)
@@ -75,11 +75,11 @@ elsewhere-turned s store id new t name =
 -- ---- a node after a plan of its series
 
 -- a plan was made for the node of its id
-pub has-such : (s : Store) (id : Id) (plan : Plan) (labels : Option (List Label)) (rules : Option (Vec Rule Global)) → IsReady s id plan labels rules → HasSuch s.nodes id (λ n. IsFor plan n.series)
+pub has-such : (s : Store) (id : Id) (plan : Plan) (labels : Option (List Label)) (rules : Option (Vec Rule Global)) → IsReady s id plan labels rules → HasNodeWhere s.nodes id (λ n. IsFor plan n.series)
 has-such s id plan labels rules planned = record { node = planned.node; there = planned.holds.node; holds = planned.ready }
 
 module _ (s : Store) (store : IsInOrder s) (id : Id) (plan : Plan) (labels : Option (List Label)) (rules : Option (Vec Rule Global)) (planned : IsReady s id plan labels rules)
-    (new : Nodes) (t : IsTurned s.nodes new id (IsAfter plan labels rules)) where
+    (new : Nodes) (t : IsNodeChanged s.nodes new id (IsAfter plan labels rules)) where
   -- the node before, and after it
   abbrev n : Node
   n = t.was
@@ -93,8 +93,8 @@ module _ (s : Store) (store : IsInOrder s) (id : Id) (plan : Plan) (labels : Opt
   turned : slab.with_value s.nodes id.0 changed ≡ new
   turned = ap (slab.with_value s.nodes id.0) (sym t.so.rest) ∙ sym t.turned
 
-  same : kept_node s.nodes changed ≡ kept_node s.nodes (node_after plan labels rules n)
-  same = ap (λ (h : History). kept_node s.nodes (record n { series = h; labels = unwrap_or labels n.labels; rules = unwrap_or rules n.rules })) t.so.done
+  same : stored_node s.nodes changed ≡ stored_node s.nodes (node_after plan labels rules n)
+  same = ap (λ (h : History). stored_node s.nodes (record n { series = h; labels = unwrap_or labels n.labels; rules = unwrap_or rules n.rules })) t.so.done
 
   it : planned.node ≡ n
   it = some-same planned.node n (sym planned.holds.node ∙ got)
@@ -121,10 +121,10 @@ module _ (s : Store) (store : IsInOrder s) (id : Id) (plan : Plan) (labels : Opt
   -- and the stored data of its key
   pub applied : IsApplied s id plan labels rules (record s { nodes = new })
   applied key g held =
-      ap (λ (nodes : Nodes). record (contents_of s) { keys = collected nodes s.keys.entries }) (sym turned)
-      ∙ ap (λ (m : Keeping). record (contents_of s) { keys = m })
+      ap (λ (nodes : Nodes). record (contents_of s) { keys = stored_by_key nodes s.keys.entries }) (sym turned)
+      ∙ ap (λ (m : StoredKeys). record (contents_of s) { keys = m })
       (keys-changed s store key id n changed (record { number = held.number; node = got }) refl links
-      ∙ ap (λ (d : Kept). with_key key d (collected s.nodes s.keys.entries)) (same ∙ ap (λ (x : Node). kept_node s.nodes (node_after plan labels rules x)) (some-same n g (sym got ∙ held.node))))
+      ∙ ap (λ (d : StoredSeries). with_key key d (stored_by_key s.nodes s.keys.entries)) (same ∙ ap (λ (x : Node). stored_node s.nodes (node_after plan labels rules x)) (some-same n g (sym got ∙ held.node))))
 
   -- the other nodes stay
   pub elsewhere : IsElsewhere s (record s { nodes = new }) id
@@ -133,11 +133,11 @@ module _ (s : Store) (store : IsInOrder s) (id : Id) (plan : Plan) (labels : Opt
 -- with new labels, or after memory ran out
 
 module _ (s : Store) (store : IsInOrder s) (id : Id) (plan : Plan) (labels : Option (List Label)) (planned : IsReady s id plan labels None) (new : Nodes) where
-  pub store-altered : (r : Result (Unit {0}) AllocError) → IfOk r (λ x. IsTurned s.nodes new id (IsAfter plan labels None)) → OnErr r (new ≡ s.nodes) → IsStore s.limits new s.keys.entries
+  pub store-altered : (r : Result (Unit {0}) AllocError) → IfOk r (λ x. IsNodeChanged s.nodes new id (IsAfter plan labels None)) → OnErr r (new ≡ s.nodes) → IsStore s.limits new s.keys.entries
   store-altered (Ok x) t is = store-applied s store id plan labels None planned new t
   store-altered (Err e) t is = subst (λ (nodes : Nodes). IsStore s.limits nodes s.keys.entries) (sym is) store
 
-  pub altered : (r : Result (Unit {0}) AllocError) → IfOk r (λ x. IsTurned s.nodes new id (IsAfter plan labels None)) → IfOk r (λ x. IsApplied s id plan labels None (record s { nodes = new }))
+  pub altered : (r : Result (Unit {0}) AllocError) → IfOk r (λ x. IsNodeChanged s.nodes new id (IsAfter plan labels None)) → IfOk r (λ x. IsApplied s id plan labels None (record s { nodes = new }))
   altered (Ok x) t = applied s store id plan labels None planned new t
   altered (Err e) t = tt
 

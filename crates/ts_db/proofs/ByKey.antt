@@ -18,8 +18,8 @@ use Rattle.std.proofs.lemmas.Map.Lookups.{btree_set_from_contains, exact_bytes}
 use Rattle.ts_spec.specs.Key.{Key}
 use Rattle.ts_spec.specs.State.{Label}
 use Rattle.ts_sample.specs.declared.sample.Id.{Id}
-use Rattle.ts_index.specs.Index.{Labelled, numbers_where}
-use Rattle.ts_db.specs.Store.{Numbers, number_of}
+use Rattle.ts_index.specs.Index.{Labelled, ids_where}
+use Rattle.ts_db.specs.Store.{Numbers, id_for_key}
 use Rattle.ts_db.proofs.Tagged.{tagged, IsKnown, IsIndexOf, told}
 
 abbrev cmp : Key → Key → Ordering
@@ -82,7 +82,7 @@ module _ (name : Id → Key) where
 
   module _ (labels : ℕ → Option (List Label)) (test : List Label → Bool) where
     abbrev chosen : Numbers → List Id
-    chosen es = numbers_where test (tagged labels name es)
+    chosen es = ids_where test (tagged labels name es)
 
     -- one more, where it passes
     abbrev more : Bool → Id → List Id → List Id
@@ -118,10 +118,10 @@ module _ (name : Id → Key) where
         (subst (λ k. AllByRecursion (λ j. cmp k j ≡ Less) (names (chosen es))) (sym known.0.named) (below-chosen e.0 es known.1 s.0)) (sorted-chosen es known.1 s.1)
 
     -- The ids that the index selects, sorted by key, are those that a scan of all keys collects.
-    pub by-key : (index : Labelled) (es : Numbers) → IsIndexOf labels name index es → (before after : List Id) → before ≡ numbers_where test index → IsPermutation before after
+    pub by-key : (index : Labelled) (es : Numbers) → IsIndexOf labels name index es → (before after : List Id) → before ≡ ids_where test index → IsPermutation before after
         → IsSortedByKey name cmp after → after ≡ chosen es
     by-key index es is before after told_is moved up =
         let same : IsPermutation before (chosen es) = subst (λ (l : List Id). IsPermutation l (chosen es)) (sym told_is) (told labels name index es is test) in
-        sym (sorted-same (λ k. number_of k es) (chosen es) after (IsPermutation-trans (chosen es) before after (IsPermutation-sym before (chosen es) same) moved)
+        sym (sorted-same (λ k. id_for_key k es) (chosen es) after (IsPermutation-trans (chosen es) before after (IsPermutation-sym before (chosen es) same) moved)
         (sorted-chosen es is.known is.sorted) up
-        (all-chosen (λ x. number_of (name x) es ≡ Some x) es is.found))
+        (all-chosen (λ x. id_for_key (name x) es ≡ Some x) es is.found))

@@ -6,20 +6,20 @@ use Rattle.ts_spec.specs.Refusal as refusal
 use Rattle.ts_spec.specs.Key.{Key}
 use Rattle.ts_spec.specs.Keyed.{with_key}
 use Rattle.ts_spec.specs.State.{Label, edge_of}
-use Rattle.ts_spec.specs.Kept.{Keeping}
-use Rattle.ts_spec.specs.Keeping.{kept_altered, keep_changed}
+use Rattle.ts_spec.specs.StoredSeries.{StoredKeys}
+use Rattle.ts_spec.specs.StoredKeys.{stored_altered, keys_changed}
 use Rattle.ts_spec.specs.Command.{Change}
 use Rattle.ts_spec.specs.Response.{Done}
 use Rattle.ts_spec.specs.Step.{is_longer}
-use Rattle.ts_spec.specs.KeptStep.{KeptOutcome, kept_refused, kept_alter_at, kept_alter}
+use Rattle.ts_spec.specs.StoredStep.{StoredOutcome, stored_refused, stored_alter_at, stored_alter}
 use Rattle.ts_sample.specs.declared.sample.Id.{Id}
 use Rattle.ts_series.specs.History.{list_of}
 use Rattle.ts_series.specs.Plan.{Plan, after, alters, options_with, with_change}
 use Rattle.ts_series.proofs.Counting.{times-length}
 use Rattle.ts_db.specs.declared.node.Node.{Node}
 use Rattle.ts_db.specs.declared.store.Store.{Store}
-use Rattle.ts_db.specs.Held.{YieldsToMemory}
-use Rattle.ts_db.specs.Store.{kept_node, stock_of, contents_of, Contents, IsInOrder, Holds}
+use Rattle.ts_db.specs.DbState.{AllowsOutOfMemory}
+use Rattle.ts_db.specs.Store.{stored_node, db_view_of, contents_of, Contents, IsInOrder, Holds}
 use Rattle.ts_db.specs.Answering.{node_after}
 use Rattle.ts_db.proofs.Applying.{there}
 use Rattle.ts_db.proofs.OneKey.{altered-alone}
@@ -39,23 +39,23 @@ altered-within n plan c limit is le =
     subst (λ (p : Plan). length (list_of (after p n.series)) ≤ limit) (sym is) (omega (arith, fewer, le))
 
 module _ (s : Store) (store : IsInOrder s) (key : Key) (id : Id) (n : Node) (holds : Holds s key id n) where
-  pub alter-longer : (c : Change) → is_longer s.limits.labels c.labels ≡ true → kept_alter s.limits (stock_of s).keys key c ≡ kept_refused (stock_of s).keys refusal.LabelsFull
+  pub alter-longer : (c : Change) → is_longer s.limits.labels c.labels ≡ true → stored_alter s.limits (db_view_of s).keys key c ≡ stored_refused (db_view_of s).keys refusal.LabelsFull
   alter-longer c long =
-      ap (kept_alter_at s.limits (stock_of s).keys key c) (there s store key id n holds)
-      ∙ ap (λ b. if b then kept_refused (stock_of s).keys refusal.LabelsFull else record { keys = keep_changed key (kept_altered c) (stock_of s).keys; response = Done }) long
+      ap (stored_alter_at s.limits (db_view_of s).keys key c) (there s store key id n holds)
+      ∙ ap (λ b. if b then stored_refused (db_view_of s).keys refusal.LabelsFull else record { keys = keys_changed key (stored_altered c) (db_view_of s).keys; response = Done }) long
 
-  pub alter-yields : (c : Change) → is_longer s.limits.labels c.labels ≡ false → YieldsToMemory (kept_alter s.limits (stock_of s).keys key c).response
+  pub alter-yields : (c : Change) → is_longer s.limits.labels c.labels ≡ false → AllowsOutOfMemory (stored_alter s.limits (db_view_of s).keys key c).response
   alter-yields c fits =
-      subst (λ (o : KeptOutcome). YieldsToMemory o.response)
-      (sym (ap (kept_alter_at s.limits (stock_of s).keys key c) (there s store key id n holds)
-      ∙ ap (λ b. if b then kept_refused (stock_of s).keys refusal.LabelsFull else record { keys = keep_changed key (kept_altered c) (stock_of s).keys; response = Done }) fits)) tt
+      subst (λ (o : StoredOutcome). AllowsOutOfMemory o.response)
+      (sym (ap (stored_alter_at s.limits (db_view_of s).keys key c) (there s store key id n holds)
+      ∙ ap (λ b. if b then stored_refused (db_view_of s).keys refusal.LabelsFull else record { keys = keys_changed key (stored_altered c) (db_view_of s).keys; response = Done }) fits)) tt
 
   pub alter-answers : (c : Change) (plan : Plan) (new : Contents) → is_longer s.limits.labels c.labels ≡ false → plan ≡ with_change plan (alters (options_with c.retention c.chunk_size c.policy c.ignore n.series.options))
-      → new ≡ record (contents_of s) { keys = with_key key (kept_node s.nodes (node_after plan c.labels None n)) (stock_of s).keys }
-      → kept_alter s.limits (stock_of s).keys key c ≡ record { keys = new.keys; response = Done }
+      → new ≡ record (contents_of s) { keys = with_key key (stored_node s.nodes (node_after plan c.labels None n)) (db_view_of s).keys }
+      → stored_alter s.limits (db_view_of s).keys key c ≡ record { keys = new.keys; response = Done }
   alter-answers c plan new fits is applied =
-      ap (kept_alter_at s.limits (stock_of s).keys key c) (there s store key id n holds)
-      ∙ ap (λ b. if b then kept_refused (stock_of s).keys refusal.LabelsFull else record { keys = keep_changed key (kept_altered c) (stock_of s).keys; response = Done }) fits
-      ∙ ap (λ (m : Keeping). record { keys = m; response = Done })
-      (altered-alone (stock_of s).keys key (kept_node s.nodes n) c (there s store key id n holds)
-      ∙ sym (ap (λ (x : Contents). x.keys) applied ∙ ap (λ (p : Plan). with_key key (kept_node s.nodes (node_after p c.labels None n)) (stock_of s).keys) is))
+      ap (stored_alter_at s.limits (db_view_of s).keys key c) (there s store key id n holds)
+      ∙ ap (λ b. if b then stored_refused (db_view_of s).keys refusal.LabelsFull else record { keys = keys_changed key (stored_altered c) (db_view_of s).keys; response = Done }) fits
+      ∙ ap (λ (m : StoredKeys). record { keys = m; response = Done })
+      (altered-alone (db_view_of s).keys key (stored_node s.nodes n) c (there s store key id n holds)
+      ∙ sym (ap (λ (x : Contents). x.keys) applied ∙ ap (λ (p : Plan). with_key key (stored_node s.nodes (node_after p c.labels None n)) (db_view_of s).keys) is))

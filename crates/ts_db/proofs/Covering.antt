@@ -11,7 +11,7 @@ use Rattle.std.proofs.lemmas.Map.Entries.{lookup_head, lookup_tail, lookup-filte
 use Rattle.std.proofs.lemmas.Map.Keys.{IsDistinct-head, IsDistinct-tail, IsDistinct-cons}
 use Rattle.ts_spec.specs.State.{Label}
 use Rattle.ts_sample.specs.declared.sample.Id.{Id}
-use Rattle.ts_index.specs.Index.{Labelled, labels_of, numbers_where}
+use Rattle.ts_index.specs.Index.{Labelled, labels_of, ids_where}
 use Rattle.ts_db.proofs.Permuted.{at, at-same, same-numbers}
 
 -- ---- the entries that pass a test
@@ -31,24 +31,24 @@ module _ (test : List Label → Bool) where
       cond_both (test e.1) (e ∷ kept es) (kept es) (λ (l : Labelled). IsDistinct at (keys_of l))
       (λ _. IsDistinct-cons at e.0 (keys_of (kept es)) (all-kept (λ y. at e.0 y ≡ false) es (IsDistinct-head at e.0 (keys_of es) d)) rest) (λ _. rest)
 
-  numbers-kept : (es : Labelled) → numbers_where (λ labels. true) (kept es) ≡ numbers_where test es
+  numbers-kept : (es : Labelled) → ids_where (λ labels. true) (kept es) ≡ ids_where test es
   numbers-kept [] = refl
   numbers-kept (e ∷ es) = go (test e.1) (numbers-kept es)
     where
-      go : (b : Bool) → numbers_where (λ labels. true) (kept es) ≡ numbers_where test es
-          → numbers_where (λ labels. true) (cond b (e ∷ kept es) (kept es)) ≡ (if b then record { 0 = e.0 } ∷ numbers_where test es else numbers_where test es)
+      go : (b : Bool) → ids_where (λ labels. true) (kept es) ≡ ids_where test es
+          → ids_where (λ labels. true) (cond b (e ∷ kept es) (kept es)) ≡ (if b then record { 0 = e.0 } ∷ ids_where test es else ids_where test es)
       go true rest = ap (λ (l : List Id). record { 0 = e.0 } ∷ l) rest
       go false rest = rest
 
   -- Where each id is there once at most, and has the same labels that pass in both, the same ids pass.
   pub same-passing : (xs ys : Labelled) → IsDistinct at (keys_of xs) → IsDistinct at (keys_of ys) → ((i : ℕ) → option_filter test (labels_of i xs) ≡ option_filter test (labels_of i ys))
-      → IsPermutation (numbers_where test xs) (numbers_where test ys)
+      → IsPermutation (ids_where test xs) (ids_where test ys)
   same-passing xs ys c d same =
       let laws = eq_by_cmp_equiv nat_cmp_total in
       let moved = same-numbers (λ labels. true) (kept xs) (kept ys) (distinct-kept xs c) (distinct-kept ys d)
       (λ i. lookup-filter-values laws test i xs c ∙ same i ∙ sym (lookup-filter-values laws test i ys d)) in
-      subst (λ (l : List Id). IsPermutation (numbers_where test xs) l) (numbers-kept ys)
-      (subst (λ (l : List Id). IsPermutation l (numbers_where (λ labels. true) (kept ys))) (numbers-kept xs) moved)
+      subst (λ (l : List Id). IsPermutation (ids_where test xs) l) (numbers-kept ys)
+      (subst (λ (l : List Id). IsPermutation l (ids_where (λ labels. true) (kept ys))) (numbers-kept xs) moved)
 
 -- ---- the labels of candidate ids
 
@@ -100,6 +100,6 @@ module _ (labels : ℕ → Option (List Label)) where
         go false pass = refl
 
     -- the candidate ids that pass are those that the index selects, in some order
-    pub lent-passing : IsPermutation (numbers_where test index) (numbers_where test (lent cs))
+    pub lent-passing : IsPermutation (ids_where test index) (ids_where test (lent cs))
     lent-passing = same-passing test index (lent cs) once (subst (IsDistinct at) (sym (keys-lent cs)) distinct)
         (λ i. ap (option_filter test) (indexed i) ∙ alike i (labels i) (list_any (at i) (numbers cs)) refl refl)

@@ -5,8 +5,8 @@ use Rattle.std.proofs.lemmas.Bool.{and_parts}
 use Rattle.ts_spec.specs.Refusal.{DestinationFull}
 use Rattle.ts_spec.specs.Key.{Key, same}
 use Rattle.ts_spec.specs.Keyed.{Entry, get_in, is_below, is_sorted, get}
-use Rattle.ts_spec.specs.Kept.{Keeping}
-use Rattle.ts_spec.specs.KeptStep.{KeptOutcome, kept_refused, kept_unless_full}
+use Rattle.ts_spec.specs.StoredSeries.{StoredKeys}
+use Rattle.ts_spec.specs.StoredStep.{StoredOutcome, stored_refused, stored_unless_full}
 use Rattle.ts_spec.proofs.Keys.{same-refl, same-true}
 use Rattle.ts_spec.proofs.Maps.{below-get}
 use Rattle.ts_spec.proofs.Tidy.{some-same}
@@ -15,12 +15,12 @@ use Rattle.ts_rules.specs.declared.rule.Rule.{Rule}
 use Rattle.ts_db.specs.declared.fault.DbFault.{DbFault}
 use Rattle.ts_db.specs.declared.fault.DbFault.TheVariants.{KeyExists, NoKey, KeysFull, LabelsFull, TooOld, Duplicate, OutOfRange, BeforeLast, SamplesFull, DeleteBeyondRetention, SameKey, SourceIsDest, DestIsSource, DestHasSource, RulesSpent, RulesFull, NoRule, Memory}
 use Rattle.ts_db.specs.declared.store.Store.{Store}
-use Rattle.ts_db.specs.Faults.{key_among, key_with, full_refusal, refusal_of}
-use Rattle.ts_db.specs.Feeding.{Rows, Gone}
-use Rattle.ts_db.specs.Held.{IsLive, YieldsToMemory, IsFullAt, IsOwn}
-use Rattle.ts_db.specs.Planning.{fed_list, first_full, IsUnplanned}
-use Rattle.ts_db.specs.Store.{key_at, key_in, number_of, stock_of, HasNode, AreLive, IsInOrder, Holds}
-use Rattle.ts_db.specs.Answering.{IsKeptAnswer}
+use Rattle.ts_db.specs.Faults.{key_among, key_of_id, full_refusal, refusal_of}
+use Rattle.ts_db.specs.DestinationUpdates.{Rows, RemovedTimes}
+use Rattle.ts_db.specs.DbState.{IsLive, AllowsOutOfMemory, IsFullAt, NamesFullSeries}
+use Rattle.ts_db.specs.Planning.{updated_dest_list, first_full, IsPlanFault}
+use Rattle.ts_db.specs.Store.{key_at, key_in, id_for_key, db_view_of, HasNode, AreLive, IsInOrder, Holds}
+use Rattle.ts_db.specs.Answering.{IsStoredAnswer}
 use Rattle.ts_db.proofs.Collecting.{get-ids, id-same}
 
 -- ---- the key of an id
@@ -46,56 +46,56 @@ among (e ∷ es) sorted k i is one = go (e.value.0 == i.0) refl (among es (and_p
         later j y false z = y
 
 module _ (s : Store) (store : IsInOrder s) (i : Id) (live : HasNode s.nodes i) where
-  numbered : get live.node.key (stock_of s).ids ≡ Some i
+  numbered : get live.node.key (db_view_of s).ids ≡ Some i
   numbered = get-ids live.node.key s.keys.entries ∙ store.owned i.0 live.node live.there
 
-  pub key-with : key_with (stock_of s).ids i ≡ key_in s.nodes i
+  pub key-with : key_of_id (db_view_of s).ids i ≡ key_in s.nodes i
   key-with =
-      among (stock_of s).ids.entries (stock_of s).ids.sorted live.node.key i numbered
+      among (db_view_of s).ids.entries (db_view_of s).ids.sorted live.node.key i numbered
       (λ j is. sym (store.named j i live.node (sym (get-ids j s.keys.entries) ∙ is) live.there))
       ∙ sym (ap key_at live.there)
 
   -- it has that id, and no other key has it
   pub key-holds : Holds s (key_in s.nodes i) i live.node
-  key-holds = record { number = ap (λ (k : Key). number_of k s.keys.entries) (ap key_at live.there) ∙ store.owned i.0 live.node live.there; node = live.there }
+  key-holds = record { number = ap (λ (k : Key). id_for_key k s.keys.entries) (ap key_at live.there) ∙ store.owned i.0 live.node live.there; node = live.there }
 
-  pub only-key : (k : Key) → number_of k s.keys.entries ≡ Some i → key_in s.nodes i ≡ k
+  pub only-key : (k : Key) → id_for_key k s.keys.entries ≡ Some i → key_in s.nodes i ≡ k
   only-key k is = ap key_at live.there ∙ store.named k i live.node is live.there
 
   -- the same for the key of the id, in the view of contracts
-  pub with-number : get (key_with (stock_of s).ids i) (stock_of s).ids ≡ Some i
-  with-number = ap (λ (k : Key). get k (stock_of s).ids) key-with ∙ get-ids (key_in s.nodes i) s.keys.entries ∙ key-holds.number
+  pub with-number : get (key_of_id (db_view_of s).ids i) (db_view_of s).ids ≡ Some i
+  with-number = ap (λ (k : Key). get k (db_view_of s).ids) key-with ∙ get-ids (key_in s.nodes i) s.keys.entries ∙ key-holds.number
 
-  pub only-with : (k : Key) → get k (stock_of s).ids ≡ Some i → key_with (stock_of s).ids i ≡ k
+  pub only-with : (k : Key) → get k (db_view_of s).ids ≡ Some i → key_of_id (db_view_of s).ids i ≡ k
   only-with k is = key-with ∙ only-key k (sym (get-ids k s.keys.entries) ∙ is)
 
-  pub live-number : IsLive (stock_of s).ids i
+  pub live-number : IsLive (db_view_of s).ids i
   live-number = record { key = live.node.key; is = numbered }
 
 -- ---- the first destination that is full
 
 -- memory may run out only if no destination refuses
-pub none-full-yields : (names : Id → Key) (m : Keeping) (full : Option Id) (done : KeptOutcome) → full ≡ None → YieldsToMemory done.response
-    → YieldsToMemory (kept_unless_full m (option_map names full) done).response
-none-full-yields names m full done none yields = subst (λ (o : Option Id). YieldsToMemory (kept_unless_full m (option_map names o) done).response) (sym none) yields
+pub none-full-yields : (names : Id → Key) (m : StoredKeys) (full : Option Id) (done : StoredOutcome) → full ≡ None → AllowsOutOfMemory done.response
+    → AllowsOutOfMemory (stored_unless_full m (option_map names full) done).response
+none-full-yields names m full done none yields = subst (λ (o : Option Id). AllowsOutOfMemory (stored_unless_full m (option_map names o) done).response) (sym none) yields
 
-module _ (s : Store) (store : IsInOrder s) (rs : List Rule) (rows : Rows) (gone : Gone) (lives : AreLive s.nodes rs) where
+module _ (s : Store) (store : IsInOrder s) (rs : List Rule) (rows : Rows) (gone : RemovedTimes) (lives : AreLive s.nodes rs) where
   full-live : (i : Id) → first_full s.limits.samples s.nodes rows gone rs ≡ Some i → HasNode s.nodes i
   full-live i is = go rs lives is
     where
       go : (ps : List Rule) → AreLive s.nodes ps → first_full s.limits.samples s.nodes rows gone ps ≡ Some i → HasNode s.nodes i
       go [] l x = absurd (cc x)
-      go (p ∷ ps) l x = pick (nat_lt s.limits.samples (length (fed_list s.nodes rows gone p))) x (λ y. go ps l.1 y)
+      go (p ∷ ps) l x = pick (nat_lt s.limits.samples (length (updated_dest_list s.nodes rows gone p))) x (λ y. go ps l.1 y)
         where
           pick : (b : Bool) → (if b then Some p.dest else first_full s.limits.samples s.nodes rows gone ps) ≡ Some i → (first_full s.limits.samples s.nodes rows gone ps ≡ Some i → HasNode s.nodes i) → HasNode s.nodes i
           pick true y ih = subst (λ (j : Id). HasNode s.nodes j) (some-same p.dest i y) l.0
           pick false y ih = ih y
 
   -- the step refuses for that destination, and the error has its id
-  pub destination-refused : (fault : DbFault) (done : KeptOutcome)
-      → (first_full s.limits.samples s.nodes rows gone rs ≡ None → YieldsToMemory (kept_unless_full (stock_of s).keys (option_map (key_in s.nodes) (first_full s.limits.samples s.nodes rows gone rs)) done).response)
-      → IsUnplanned (first_full s.limits.samples s.nodes rows gone rs) fault
-      → IsKeptAnswer (refusal_of (stock_of s).ids fault) (stock_of s).keys (kept_unless_full (stock_of s).keys (option_map (key_in s.nodes) (first_full s.limits.samples s.nodes rows gone rs)) done)
+  pub destination-refused : (fault : DbFault) (done : StoredOutcome)
+      → (first_full s.limits.samples s.nodes rows gone rs ≡ None → AllowsOutOfMemory (stored_unless_full (db_view_of s).keys (option_map (key_in s.nodes) (first_full s.limits.samples s.nodes rows gone rs)) done).response)
+      → IsPlanFault (first_full s.limits.samples s.nodes rows gone rs) fault
+      → IsStoredAnswer (refusal_of (db_view_of s).ids fault) (db_view_of s).keys (stored_unless_full (db_view_of s).keys (option_map (key_in s.nodes) (first_full s.limits.samples s.nodes rows gone rs)) done)
   destination-refused KeyExists done lost x = absurd x
   destination-refused NoKey done lost x = absurd x
   destination-refused KeysFull done lost x = absurd x
@@ -105,9 +105,9 @@ module _ (s : Store) (store : IsInOrder s) (rs : List Rule) (rows : Rows) (gone 
   destination-refused OutOfRange done lost x = absurd x
   destination-refused BeforeLast done lost x = absurd x
   destination-refused (SamplesFull i written) done lost x =
-      ap (λ (o : Option Id). kept_unless_full (stock_of s).keys (option_map (key_in s.nodes) o) done) x.1
-      ∙ ap (λ (k : Key). kept_refused (stock_of s).keys (DestinationFull k)) (sym (key-with s store i (full-live i x.1)))
-      ∙ ap (λ b. kept_refused (stock_of s).keys (full_refusal b (key_with (stock_of s).ids i))) (sym x.0)
+      ap (λ (o : Option Id). stored_unless_full (db_view_of s).keys (option_map (key_in s.nodes) o) done) x.1
+      ∙ ap (λ (k : Key). stored_refused (db_view_of s).keys (DestinationFull k)) (sym (key-with s store i (full-live i x.1)))
+      ∙ ap (λ b. stored_refused (db_view_of s).keys (full_refusal b (key_of_id (db_view_of s).ids i))) (sym x.0)
   destination-refused DeleteBeyondRetention done lost x = absurd x
   destination-refused SameKey done lost x = absurd x
   destination-refused SourceIsDest done lost x = absurd x
@@ -118,7 +118,7 @@ module _ (s : Store) (store : IsInOrder s) (rs : List Rule) (rows : Rows) (gone 
   destination-refused NoRule done lost x = absurd x
   destination-refused (Memory e) done lost x = lost x
 
-  pub destination-own : (key : Key) (fault : DbFault) → IsUnplanned (first_full s.limits.samples s.nodes rows gone rs) fault → IsOwn (stock_of s) key fault
-  destination-own key (SamplesFull i written) x = subst (IsFullAt (stock_of s).ids key i) (sym x.0) (live-number s store i (full-live i x.1))
+  pub destination-own : (key : Key) (fault : DbFault) → IsPlanFault (first_full s.limits.samples s.nodes rows gone rs) fault → NamesFullSeries (db_view_of s) key fault
+  destination-own key (SamplesFull i written) x = subst (IsFullAt (db_view_of s).ids key i) (sym x.0) (live-number s store i (full-live i x.1))
   destination-own key (Memory e) x = tt
   destination-own key fault x = absurd x

@@ -2,19 +2,19 @@
 use Rattle.std.proofs.Common.{◌≡◌, List, [], ◌∷◌, refl, ◌∙◌, ap}
 use Rattle.std.specs.Prelude.{Option, None, Some}
 use Rattle.ts_spec.specs.Key.{Key}
-use Rattle.ts_spec.specs.Kept.{KeptRule}
+use Rattle.ts_spec.specs.StoredSeries.{StoredRule}
 use Rattle.ts_sample.specs.declared.sample.Id.{Id}
 use Rattle.ts_rules.specs.declared.rule.Rule.{Rule}
-use Rattle.ts_rules.specs.Rules.{kept_with_dest}
+use Rattle.ts_rules.specs.Rules.{stored_rule_for}
 use Rattle.ts_db.specs.declared.store.Store.{Store}
 use Rattle.ts_db.specs.Answering.{IsElsewhere}
-use Rattle.ts_db.specs.Linking.{kept_sourced, keep_freed, IsKeptBy}
-use Rattle.ts_db.specs.Store.{rules_by, key_in, number_of, stock_of, contents_of, Contents, Numbers, HasNode, AreLive, IsLiveSource, IsInOrder}
+use Rattle.ts_db.specs.Linking.{stored_with_source, keys_unlinked, IsStoredChange}
+use Rattle.ts_db.specs.Store.{rules_by, key_in, id_for_key, db_view_of, contents_of, Contents, Numbers, HasNode, AreLive, IsLiveSource, IsInOrder}
 
 -- an id stays live where all keys stay
 pub live-after : (old new : Store) → IsInOrder old → IsInOrder new → new.keys.entries ≡ old.keys.entries → (id : Id) → HasNode old.nodes id → HasNode new.nodes id
 live-after old new before after same id live =
-    let of = after.stored live.node.key id (ap (λ (es : Numbers). number_of live.node.key es) same ∙ before.owned id.0 live.node live.there) in
+    let of = after.stored live.node.key id (ap (λ (es : Numbers). id_for_key live.node.key es) same ∙ before.owned id.0 live.node live.there) in
     record { node = of.0; there = of.1 }
 
 pub all-live-after : (old new : Store) → IsInOrder old → IsInOrder new → new.keys.entries ≡ old.keys.entries → (rs : List Rule) → AreLive old.nodes rs → AreLive new.nodes rs
@@ -30,21 +30,21 @@ pub same-rules-by : (new old : Id → Key) → ((i : Id) → new i ≡ old i) �
 same-rules-by new old same [] = refl
 same-rules-by new old same (r ∷ rs) =
     let rest : rules_by new rs ≡ rules_by old rs = same-rules-by new old same rs in
-    λ i. kept_with_dest (same r.dest i) r ∷ rest i
+    λ i. stored_rule_for (same r.dest i) r ∷ rest i
 
 -- what is left to do, and that it comes to the same
 pub record Freeing (init now : Store) (all rest : List Rule) : Type 0 where
   pub live : AreLive now.nodes rest
-  pub result : record (contents_of now) { keys = keep_freed (rules_by (key_in now.nodes) rest) (stock_of now).keys }
-      ≡ record (contents_of init) { keys = keep_freed (rules_by (key_in init.nodes) all) (stock_of init).keys }
+  pub result : record (contents_of now) { keys = keys_unlinked (rules_by (key_in now.nodes) rest) (db_view_of now).keys }
+      ≡ record (contents_of init) { keys = keys_unlinked (rules_by (key_in init.nodes) all) (db_view_of init).keys }
 
 -- after one more
 pub freed-one : (init now new : Store) (all : List Rule) (r : Rule) (rest : List Rule) → Freeing init now all (r ∷ rest) → IsInOrder now → IsInOrder new → IsElsewhere now new r.dest
-    → IsKeptBy now r.dest (kept_sourced None) new → Freeing init new all rest
+    → IsStoredChange now r.dest (stored_with_source None) new → Freeing init new all rest
 freed-one init now new all r rest f before after elsewhere set = record {
   live = all-live-after now new before after elsewhere.entries rest f.live.1;
   result =
-      ap (λ (qs : List KeptRule). record (contents_of new) { keys = keep_freed qs (stock_of new).keys }) (same-rules-by (key_in new.nodes) (key_in now.nodes) elsewhere.names rest)
-      ∙ ap (λ (x : Contents). record x { keys = keep_freed (rules_by (key_in now.nodes) rest) x.keys }) set
+      ap (λ (qs : List StoredRule). record (contents_of new) { keys = keys_unlinked qs (db_view_of new).keys }) (same-rules-by (key_in new.nodes) (key_in now.nodes) elsewhere.names rest)
+      ∙ ap (λ (x : Contents). record x { keys = keys_unlinked (rules_by (key_in now.nodes) rest) x.keys }) set
       ∙ f.result;
 }

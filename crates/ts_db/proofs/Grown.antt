@@ -2,7 +2,7 @@
 use Rattle.std.proofs.Common.{◌≡◌, ◌+◌, ◌<◌, ℕ, List, [], ◌∷◌, ◌++◌, length, take, drop, get_or, slice_set, sym, ◌∙◌, subst, arith}
 use Rattle.std.proofs.lemmas.List.{take_more, take_more_set, drop_more, drop-set-lt}
 use Rattle.std.proofs.lemmas.Grind.{drop_more_same}
-use Rattle.ts_spec.specs.Kept.{KeptRule}
+use Rattle.ts_spec.specs.StoredSeries.{StoredRule}
 use Rattle.ts_rules.specs.declared.rule.Rule.{Rule}
 use Rattle.ts_rules.specs.Rules.{IsChanged}
 use Rattle.ts_db.specs.Planning.{AreChanged}
@@ -14,7 +14,7 @@ same-rule all now i d a b same =
     let heads : get_or now i d ∷ drop (i + 1) now ≡ get_or all i d ∷ drop (i + 1) all = sym (drop_more now i d b) ∙ same ∙ drop_more all i d a in
     cc heads
 
-pub one-more : (change : KeptRule → KeptRule) (all now : List Rule) (i : ℕ) (d y : Rule) → i < length all → i < length now → drop i now ≡ drop i all
+pub one-more : (change : StoredRule → StoredRule) (all now : List Rule) (i : ℕ) (d y : Rule) → i < length all → i < length now → drop i now ≡ drop i all
     → AreChanged change (take i all) (take i now) → IsChanged change (get_or now i d) y → AreChanged change (take (i + 1) all) (take (i + 1) (slice_set now i y))
 one-more change all now i d y a b same done one =
     subst (λ (rs : List Rule). AreChanged change rs (take (i + 1) (slice_set now i y))) (sym (take_more all i d a))

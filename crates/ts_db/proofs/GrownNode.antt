@@ -5,7 +5,7 @@ use Rattle.slab.specs.Slab as slab
 use Rattle.ts_spec.specs.Sample.{Point}
 use Rattle.ts_spec.specs.Key.{Key}
 use Rattle.ts_spec.specs.Keyed.{with_key}
-use Rattle.ts_spec.specs.Kept.{Kept}
+use Rattle.ts_spec.specs.StoredSeries.{StoredSeries}
 use Rattle.ts_spec.proofs.Tidy.{some-same}
 use Rattle.ts_sample.specs.declared.sample.Id.{Id}
 use Rattle.ts_series.specs.History.{History, list_of}
@@ -13,14 +13,14 @@ use Rattle.ts_series.specs.Plan.{Plan, after}
 use Rattle.ts_db.specs.declared.node.Node.{Node}
 use Rattle.ts_db.specs.declared.store.Store.{Store}
 use Rattle.ts_db.specs.Answering.{IsReady}
-use Rattle.ts_db.specs.Growing.{grown, kept_grown}
-use Rattle.ts_db.specs.Turned.{IsTurned, IsGrown}
-use Rattle.ts_db.specs.Store.{kept_series, key_in, kept_node, collected, Nodes, HasLiveLinks, IsNode, IsStore, IsInOrder, Holds}
+use Rattle.ts_db.specs.OpenAppend.{counted_once_more, stored_open_append}
+use Rattle.ts_db.specs.NodeChanges.{IsNodeChanged, IsOpenAppended}
+use Rattle.ts_db.specs.Store.{stored_series, key_in, stored_node, stored_by_key, Nodes, HasLiveLinks, IsNode, IsStore, IsInOrder, Holds}
 use Rattle.ts_db.proofs.Applying.{store-changed, keys-changed}
-use Rattle.ts_db.proofs.StayingOpen.{grown-grids}
+use Rattle.ts_db.proofs.StayingOpen.{counted_once_more-grids}
 use Rattle.ts_db.proofs.Working.{changed-rules, changed-live}
 
-module _ (s : Store) (store : IsInOrder s) (id : Id) (plan : Plan) (planned : IsReady s id plan None None) (p : Point) (new : Nodes) (t : IsTurned s.nodes new id (IsGrown plan p)) where
+module _ (s : Store) (store : IsInOrder s) (id : Id) (plan : Plan) (planned : IsReady s id plan None None) (p : Point) (new : Nodes) (t : IsNodeChanged s.nodes new id (IsOpenAppended plan p)) where
   -- the node before, and after it
   abbrev n : Node
   n = t.was
@@ -38,7 +38,7 @@ module _ (s : Store) (store : IsInOrder s) (id : Id) (plan : Plan) (planned : Is
   it = some-same planned.node n (sym planned.holds.node ∙ got)
 
   links : HasLiveLinks s.nodes changed
-  links = record { rules = changed-live s (grown p) n.rules.items t.now.rules.items t.so.rules (store.live id.0 n got).rules; source = (store.live id.0 n got).source }
+  links = record { rules = changed-live s (counted_once_more p) n.rules.items t.now.rules.items t.so.rules (store.live id.0 n got).rules; source = (store.live id.0 n got).source }
 
   in_order : IsNode s.limits changed
   in_order = record {
@@ -46,22 +46,22 @@ module _ (s : Store) (store : IsInOrder s) (id : Id) (plan : Plan) (planned : Is
     within = subst (λ (h : History). length (list_of h) ≤ s.limits.samples) (sym t.so.done) (subst (λ (g : Node). length (list_of (after plan g.series)) ≤ s.limits.samples) it planned.within);
     born = subst (λ (h : History). h.born ≤ s.limits.born) (sym t.so.done) (store.each id.0 n got).born;
     labels = (store.each id.0 n got).labels;
-    grids = grown-grids p n.rules.items t.now.rules.items t.so.rules (store.each id.0 n got).grids;
+    grids = counted_once_more-grids p n.rules.items t.now.rules.items t.so.rules (store.each id.0 n got).grids;
   }
 
   -- the store stays in order
-  pub store-grown : IsStore s.limits new s.keys.entries
-  store-grown =
+  pub store-counted_once_more : IsStore s.limits new s.keys.entries
+  store-counted_once_more =
       subst (λ (nodes : Nodes). IsStore s.limits nodes s.keys.entries) turned (store-changed s store planned.key id n changed (record { number = planned.holds.number; node = got }) refl links in_order)
 
-  same : kept_node s.nodes changed ≡ kept_grown s.nodes plan p n
+  same : stored_node s.nodes changed ≡ stored_open_append s.nodes plan p n
   same =
-      let all = changed-rules (key_in s.nodes) (grown p) n.rules.items t.now.rules.items t.so.rules in
-      λ i. record (kept_series n.labels (t.so.done i)) { rules = all i; source = option_map (key_in s.nodes) n.source }
+      let all = changed-rules (key_in s.nodes) (counted_once_more p) n.rules.items t.now.rules.items t.so.rules in
+      λ i. record (stored_series n.labels (t.so.done i)) { rules = all i; source = option_map (key_in s.nodes) n.source }
 
   -- and the stored data of its key
-  pub keys-grown : (key : Key) (g : Node) → Holds s key id g → collected new s.keys.entries ≡ with_key key (kept_grown s.nodes plan p g) (collected s.nodes s.keys.entries)
-  keys-grown key g held =
-      ap (λ (nodes : Nodes). collected nodes s.keys.entries) (sym turned)
+  pub keys-counted_once_more : (key : Key) (g : Node) → Holds s key id g → stored_by_key new s.keys.entries ≡ with_key key (stored_open_append s.nodes plan p g) (stored_by_key s.nodes s.keys.entries)
+  keys-counted_once_more key g held =
+      ap (λ (nodes : Nodes). stored_by_key nodes s.keys.entries) (sym turned)
       ∙ keys-changed s store key id n changed (record { number = held.number; node = got }) refl links
-      ∙ ap (λ (d : Kept). with_key key d (collected s.nodes s.keys.entries)) (same ∙ ap (kept_grown s.nodes plan p) (some-same n g (sym got ∙ held.node)))
+      ∙ ap (λ (d : StoredSeries). with_key key d (stored_by_key s.nodes s.keys.entries)) (same ∙ ap (stored_open_append s.nodes plan p) (some-same n g (sym got ∙ held.node)))

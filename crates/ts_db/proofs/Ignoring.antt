@@ -11,16 +11,16 @@ use Rattle.ts_spec.specs.Rules.{merge}
 use Rattle.ts_spec.specs.Step.{value_at}
 use Rattle.ts_spec.specs.Key.{Key}
 use Rattle.ts_spec.specs.Keyed.{get}
-use Rattle.ts_spec.specs.Kept.{Kept, Keeping}
-use Rattle.ts_spec.specs.Ignoring.{is_last, is_near, is_close, ignored_after, kept_ignored}
-use Rattle.ts_spec.specs.KeptStep.{KeptOutcome, kept_refused, unchanged_with, kept_write_merged, kept_unless_ignored, kept_write}
+use Rattle.ts_spec.specs.StoredSeries.{StoredSeries, StoredKeys}
+use Rattle.ts_spec.specs.Ignoring.{is_last, is_near, is_close, ignored_after, stored_ignored}
+use Rattle.ts_spec.specs.StoredStep.{StoredOutcome, stored_refused, unchanged_with, stored_write_merged, stored_unless_ignored, stored_write}
 use Rattle.ts_sample.specs.declared.sample.Id.{Id}
 use Rattle.ts_series.specs.History.{History, list_of, low, IsKept}
 use Rattle.ts_series.specs.Put.{met}
 use Rattle.ts_series.proofs.Expired.{none-kept}
 use Rattle.ts_db.specs.declared.node.Node.{Node}
 use Rattle.ts_db.specs.declared.store.Store.{Store}
-use Rattle.ts_db.specs.Store.{kept_node, key_in, stock_of, IsInOrder, IsNode, Holds}
+use Rattle.ts_db.specs.Store.{stored_node, key_in, db_view_of, IsInOrder, IsNode, Holds}
 use Rattle.ts_db.specs.Writes.{ignored_by}
 use Rattle.ts_db.specs.Bounds.{ignored_at, IsIgnored}
 use Rattle.ts_db.proofs.Applying.{there}
@@ -73,18 +73,18 @@ late-enough h t last kept c = go (nat_lt t (low h)) refl
 
 module _ (s : Store) (store : IsInOrder s) (key : Key) (id : Id) (n : Node) (holds : Holds s key id n) (t : ℕ) (v : ℤ) where
   -- a link is part of the stored data
-  pub kept-by : kept_ignored (kept_node s.nodes n) t v ≡ ignored_by n t v
+  pub kept-by : stored_ignored (stored_node s.nodes n) t v ≡ ignored_by n t v
   kept-by = ap (λ (b : Bool). if b then None else ignored_after n.series.options (last_of (list_of n.series)) t v) (same_source n.source)
     where
       same_source : (o : Option Id) → is_some (option_map (key_in s.nodes) o) ≡ is_some o
       same_source None = refl
       same_source (Some id) = refl
 
-  kept-at : ignored_at (get key (stock_of s).keys) t v ≡ ignored_by n t v
-  kept-at = ap (λ (o : Option Kept). ignored_at o t v) (there s store key id n holds) ∙ kept-by
+  kept-at : ignored_at (get key (db_view_of s).keys) t v ≡ ignored_by n t v
+  kept-at = ap (λ (o : Option StoredSeries). ignored_at o t v) (there s store key id n holds) ∙ kept-by
 
   -- what is not ignored is not told to be
-  pub not-ignored : None ≡ ignored_by n t v → IsIgnored (stock_of s) key t v → false ≡ true
+  pub not-ignored : None ≡ ignored_by n t v → IsIgnored (db_view_of s) key t v → false ≡ true
   not-ignored none is = ap is_some (none ∙ sym kept-at) ∙ is
 
   pub ignored-upto : (last : ℕ) → Some last ≡ ignored_by n t v → last ≤ t
@@ -97,14 +97,14 @@ module _ (s : Store) (store : IsInOrder s) (key : Key) (id : Id) (n : Node) (hol
 
   -- a write of a sample that is ignored tells the time of the last one
   pub write-ignored : (how : Merge) (last : ℕ) → Some last ≡ ignored_by n t v
-      → kept_write s.limits (stock_of s).keys key (kept_node s.nodes n) how t v ≡ unchanged_with (stock_of s).keys (Count last)
+      → stored_write s.limits (db_view_of s).keys key (stored_node s.nodes n) how t v ≡ unchanged_with (db_view_of s).keys (Count last)
   write-ignored how last is =
-      let m : Keeping = (stock_of s).keys in
-      let merged : KeptOutcome = kept_write_merged s.limits m key t (merge how (value_at t (list_of n.series)) v) in
-      ap (λ (b : Bool). if b then kept_refused m refusal.TooOld else kept_unless_ignored m (kept_ignored (kept_node s.nodes n) t v) merged) (ignored-late last is)
-      ∙ ap (λ (o : Option ℕ). kept_unless_ignored m o merged) (kept-by ∙ sym is)
+      let m : StoredKeys = (db_view_of s).keys in
+      let merged : StoredOutcome = stored_write_merged s.limits m key t (merge how (value_at t (list_of n.series)) v) in
+      ap (λ (b : Bool). if b then stored_refused m refusal.TooOld else stored_unless_ignored m (stored_ignored (stored_node s.nodes n) t v) merged) (ignored-late last is)
+      ∙ ap (λ (o : Option ℕ). stored_unless_ignored m o merged) (kept-by ∙ sym is)
 
   -- one of another sample is what the value comes to
   pub write-unignored : (how : Merge) → None ≡ ignored_by n t v
-      → kept_write s.limits (stock_of s).keys key (kept_node s.nodes n) how t v ≡ kept_write_merged s.limits (stock_of s).keys key t (met how t v n.series)
-  write-unignored how none = write-met (stock_of s).keys s key n how t v (kept-by ∙ sym none)
+      → stored_write s.limits (db_view_of s).keys key (stored_node s.nodes n) how t v ≡ stored_write_merged s.limits (db_view_of s).keys key t (met how t v n.series)
+  write-unignored how none = write-met (db_view_of s).keys s key n how t v (kept-by ∙ sym none)

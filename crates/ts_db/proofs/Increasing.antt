@@ -9,37 +9,37 @@ use Rattle.ts_spec.specs.Key.{Key}
 use Rattle.ts_spec.specs.Command.{Spec}
 use Rattle.ts_spec.specs.Rules.{Merged, Refuse, To, merge, within_bound}
 use Rattle.ts_spec.specs.Step.{value_at, is_before_last, changed_value}
-use Rattle.ts_spec.specs.Ignoring.{kept_ignored}
-use Rattle.ts_spec.specs.Kept.{Kept}
-use Rattle.ts_spec.specs.KeptStep.{kept_refused, list_at, kept_write_merged, kept_unless_ignored, kept_increased, kept_incr_at, kept_incr}
+use Rattle.ts_spec.specs.Ignoring.{stored_ignored}
+use Rattle.ts_spec.specs.StoredSeries.{StoredSeries}
+use Rattle.ts_spec.specs.StoredStep.{stored_refused, list_at, stored_write_merged, stored_unless_ignored, stored_increased, stored_incr_at, stored_incr}
 use Rattle.ts_sample.specs.declared.sample.Id.{Id}
 use Rattle.ts_series.specs.History.{list_of, low}
 use Rattle.ts_db.specs.declared.node.Node.{Node}
 use Rattle.ts_db.specs.declared.store.Store.{Store}
-use Rattle.ts_db.specs.Store.{kept_node, stock_of, IsInOrder, Holds}
+use Rattle.ts_db.specs.Store.{stored_node, db_view_of, IsInOrder, Holds}
 use Rattle.ts_db.specs.Writes.{IsChanged, ignored_by}
 use Rattle.ts_db.specs.Bounds.{IsIgnored, IsChangeIgnored}
-use Rattle.ts_db.specs.PutBy.{kept_merge_at, kept_merge}
+use Rattle.ts_db.specs.PutBy.{stored_merge_at, stored_merge}
 use Rattle.ts_db.proofs.Applying.{there}
 use Rattle.ts_db.proofs.Ignoring.{kept-by}
 
 module _ (s : Store) (store : IsInOrder s) (key : Key) (id : Id) (n : Node) (holds : Holds s key id n) (x : ℤ) (t : ℕ) (spec : Spec) where
   -- the step, by what its tests say
   tested : (a b : Bool) → is_before_last t (last_of (list_of n.series)) ≡ a → nat_lt t (low n.series) ≡ b
-      → kept_incr s.limits (stock_of s).keys key x t spec ≡ (if a then kept_refused (stock_of s).keys refusal.BeforeLast
-      else (if b then kept_refused (stock_of s).keys refusal.TooOld else kept_increased s.limits (stock_of s).keys key (kept_node s.nodes n) t (within_bound (changed_value x (last_of (list_of n.series))))))
+      → stored_incr s.limits (db_view_of s).keys key x t spec ≡ (if a then stored_refused (db_view_of s).keys refusal.BeforeLast
+      else (if b then stored_refused (db_view_of s).keys refusal.TooOld else stored_increased s.limits (db_view_of s).keys key (stored_node s.nodes n) t (within_bound (changed_value x (last_of (list_of n.series))))))
   tested a b e f =
-      ap (kept_incr_at s.limits (stock_of s).keys key x t spec) (there s store key id n holds)
-      ∙ ap (λ c. if c then kept_refused (stock_of s).keys refusal.BeforeLast
-      else (if nat_lt t (low n.series) then kept_refused (stock_of s).keys refusal.TooOld else kept_increased s.limits (stock_of s).keys key (kept_node s.nodes n) t (within_bound (changed_value x (last_of (list_of n.series)))))) e
-      ∙ ap (λ c. if a then kept_refused (stock_of s).keys refusal.BeforeLast
-      else (if c then kept_refused (stock_of s).keys refusal.TooOld else kept_increased s.limits (stock_of s).keys key (kept_node s.nodes n) t (within_bound (changed_value x (last_of (list_of n.series)))))) f
+      ap (stored_incr_at s.limits (db_view_of s).keys key x t spec) (there s store key id n holds)
+      ∙ ap (λ c. if c then stored_refused (db_view_of s).keys refusal.BeforeLast
+      else (if nat_lt t (low n.series) then stored_refused (db_view_of s).keys refusal.TooOld else stored_increased s.limits (db_view_of s).keys key (stored_node s.nodes n) t (within_bound (changed_value x (last_of (list_of n.series)))))) e
+      ∙ ap (λ c. if a then stored_refused (db_view_of s).keys refusal.BeforeLast
+      else (if c then stored_refused (db_view_of s).keys refusal.TooOld else stored_increased s.limits (db_view_of s).keys key (stored_node s.nodes n) t (within_bound (changed_value x (last_of (list_of n.series)))))) f
 
-  pub incr-before : is_before_last t (last_of (list_of n.series)) ≡ true → kept_incr s.limits (stock_of s).keys key x t spec ≡ kept_refused (stock_of s).keys refusal.BeforeLast
+  pub incr-before : is_before_last t (last_of (list_of n.series)) ≡ true → stored_incr s.limits (db_view_of s).keys key x t spec ≡ stored_refused (db_view_of s).keys refusal.BeforeLast
   incr-before e = tested true (nat_lt t (low n.series)) e refl
 
   pub incr-old : is_before_last t (last_of (list_of n.series)) ≡ false → nat_lt t (low n.series) ≡ true
-      → kept_incr s.limits (stock_of s).keys key x t spec ≡ kept_refused (stock_of s).keys refusal.TooOld
+      → stored_incr s.limits (db_view_of s).keys key x t spec ≡ stored_refused (db_view_of s).keys refusal.TooOld
   incr-old e f = tested false true e f
 
   out : (v : ℤ) → IsChanged (within_bound v) None → within_bound v ≡ Refuse refusal.OutOfRange
@@ -50,8 +50,8 @@ module _ (s : Store) (store : IsInOrder s) (key : Key) (id : Id) (n : Node) (hol
       go false e = refl
 
   pub incr-out : is_before_last t (last_of (list_of n.series)) ≡ false → nat_lt t (low n.series) ≡ false → IsChanged (within_bound (changed_value x (last_of (list_of n.series)))) None
-      → kept_incr s.limits (stock_of s).keys key x t spec ≡ kept_refused (stock_of s).keys refusal.OutOfRange
-  incr-out e f is = tested false false e f ∙ ap (kept_increased s.limits (stock_of s).keys key (kept_node s.nodes n) t) (out (changed_value x (last_of (list_of n.series))) is)
+      → stored_incr s.limits (db_view_of s).keys key x t spec ≡ stored_refused (db_view_of s).keys refusal.OutOfRange
+  incr-out e f is = tested false false e f ∙ ap (stored_increased s.limits (db_view_of s).keys key (stored_node s.nodes n) t) (out (changed_value x (last_of (list_of n.series))) is)
 
   within : (w v : ℤ) → IsChanged (within_bound w) (Some v) → within_bound w ≡ To v
   within w v is = go (nat_le (unsigned_abs w) bound) is
@@ -62,32 +62,32 @@ module _ (s : Store) (store : IsInOrder s) (key : Key) (id : Id) (n : Node) (hol
 
   -- where the result is in range, by whether it is ignored
   in-range : (v : ℤ) → is_before_last t (last_of (list_of n.series)) ≡ false → nat_lt t (low n.series) ≡ false → IsChanged (within_bound (changed_value x (last_of (list_of n.series)))) (Some v)
-      → kept_incr s.limits (stock_of s).keys key x t spec ≡ kept_unless_ignored (stock_of s).keys (ignored_by n t v) (kept_write_merged s.limits (stock_of s).keys key t (To v))
+      → stored_incr s.limits (db_view_of s).keys key x t spec ≡ stored_unless_ignored (db_view_of s).keys (ignored_by n t v) (stored_write_merged s.limits (db_view_of s).keys key t (To v))
   in-range v e f is =
       tested false false e f
-      ∙ ap (kept_increased s.limits (stock_of s).keys key (kept_node s.nodes n) t) (within (changed_value x (last_of (list_of n.series))) v is)
-      ∙ ap (λ (o : Option ℕ). kept_unless_ignored (stock_of s).keys o (kept_write_merged s.limits (stock_of s).keys key t (To v))) (kept-by s store key id n holds t v)
+      ∙ ap (stored_increased s.limits (db_view_of s).keys key (stored_node s.nodes n) t) (within (changed_value x (last_of (list_of n.series))) v is)
+      ∙ ap (λ (o : Option ℕ). stored_unless_ignored (db_view_of s).keys o (stored_write_merged s.limits (db_view_of s).keys key t (To v))) (kept-by s store key id n holds t v)
 
   -- and then it is a write of the result
   pub incr-merges : (v : ℤ) → is_before_last t (last_of (list_of n.series)) ≡ false → nat_lt t (low n.series) ≡ false
       → IsChanged (within_bound (changed_value x (last_of (list_of n.series)))) (Some v)
-      → kept_incr s.limits (stock_of s).keys key x t spec ≡ kept_merge s.limits (stock_of s).keys key t v (Some Set)
+      → stored_incr s.limits (db_view_of s).keys key x t spec ≡ stored_merge s.limits (db_view_of s).keys key t v (Some Set)
   incr-merges v e f is =
       in-range v e f is
-      ∙ sym (ap (kept_merge_at s.limits (stock_of s).keys key t v (Some Set)) (there s store key id n holds)
-      ∙ ap (λ (m : Merged). if nat_lt t (low n.series) then kept_refused (stock_of s).keys refusal.TooOld else kept_unless_ignored (stock_of s).keys (kept_ignored (kept_node s.nodes n) t v) (kept_write_merged s.limits (stock_of s).keys key t m)) (set-to (value_at t (list_of n.series)))
-      ∙ ap (λ (b : Bool). if b then kept_refused (stock_of s).keys refusal.TooOld else kept_unless_ignored (stock_of s).keys (kept_ignored (kept_node s.nodes n) t v) (kept_write_merged s.limits (stock_of s).keys key t (To v))) f
-      ∙ ap (λ (o : Option ℕ). kept_unless_ignored (stock_of s).keys o (kept_write_merged s.limits (stock_of s).keys key t (To v))) (kept-by s store key id n holds t v))
+      ∙ sym (ap (stored_merge_at s.limits (db_view_of s).keys key t v (Some Set)) (there s store key id n holds)
+      ∙ ap (λ (m : Merged). if nat_lt t (low n.series) then stored_refused (db_view_of s).keys refusal.TooOld else stored_unless_ignored (db_view_of s).keys (stored_ignored (stored_node s.nodes n) t v) (stored_write_merged s.limits (db_view_of s).keys key t m)) (set-to (value_at t (list_of n.series)))
+      ∙ ap (λ (b : Bool). if b then stored_refused (db_view_of s).keys refusal.TooOld else stored_unless_ignored (db_view_of s).keys (stored_ignored (stored_node s.nodes n) t v) (stored_write_merged s.limits (db_view_of s).keys key t (To v))) f
+      ∙ ap (λ (o : Option ℕ). stored_unless_ignored (db_view_of s).keys o (stored_write_merged s.limits (db_view_of s).keys key t (To v))) (kept-by s store key id n holds t v))
     where
       set-to : (o : Option ℤ) → merge Set o v ≡ To v
       set-to None = refl
       set-to (Some w) = refl
 
   -- a change that is ignored is a write that is
-  pub change-ignored : (v : ℤ) → IsChanged (within_bound (changed_value x (last_of (list_of n.series)))) (Some v) → IsChangeIgnored (stock_of s) key t x → IsIgnored (stock_of s) key t v
+  pub change-ignored : (v : ℤ) → IsChanged (within_bound (changed_value x (last_of (list_of n.series)))) (Some v) → IsChangeIgnored (db_view_of s) key t x → IsIgnored (db_view_of s) key t v
   change-ignored v is told =
-      subst (λ (w : ℤ). IsIgnored (stock_of s) key t w) (value-of (changed_value x (last_of (list_of n.series))) v is)
-      (subst (λ (o : Option Kept). IsIgnored (stock_of s) key t (changed_value x (last_of (list_at o)))) (there s store key id n holds) told)
+      subst (λ (w : ℤ). IsIgnored (db_view_of s) key t w) (value-of (changed_value x (last_of (list_of n.series))) v is)
+      (subst (λ (o : Option StoredSeries). IsIgnored (db_view_of s) key t (changed_value x (last_of (list_at o)))) (there s store key id n holds) told)
     where
       value-of : (w y : ℤ) → IsChanged (within_bound w) (Some y) → w ≡ y
       value-of w y h = go (nat_le (unsigned_abs w) bound) h

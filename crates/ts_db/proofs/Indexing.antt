@@ -15,7 +15,7 @@ use Rattle.ts_rules.specs.declared.rule.Rule.{Rule}
 use Rattle.ts_db.specs.declared.node.Node.{Node}
 use Rattle.ts_db.specs.Store.{Nodes}
 use Rattle.ts_db.specs.Indexed.{IsIndexed}
-use Rattle.ts_db.specs.Turned.{IsTurned, IsAfter}
+use Rattle.ts_db.specs.NodeChanges.{IsNodeChanged, IsAfter}
 
 -- the labels of a node, if there is one
 abbrev pub node_labels : Option Node → Option (List Label)
@@ -41,7 +41,7 @@ indexed-altered nodes index fresh id n changed there gives is =
 
 -- ---- how one node changed
 
-pub turned : {by : (was now : Node) → Type 0} (inside old : Nodes) (id : Id) (was now : Node) → inside ≡ old → slab.get inside id.0 ≡ Some was → by was now → IsTurned old (slab.with_value inside id.0 now) id by
+pub turned : {by : (was now : Node) → Type 0} (inside old : Nodes) (id : Id) (was now : Node) → inside ≡ old → slab.get inside id.0 ≡ Some was → by was now → IsNodeChanged old (slab.with_value inside id.0 now) id by
 turned inside old id was now is value so = record {
   was = was;
   now = now;

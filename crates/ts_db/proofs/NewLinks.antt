@@ -8,27 +8,27 @@ use Rattle.ts_spec.specs.declared.bucket.Aggregator.{Aggregator}
 use Rattle.ts_spec.specs.Bucket.{Grid}
 use Rattle.ts_spec.specs.Key.{Key, same}
 use Rattle.ts_spec.specs.Keyed.{with_key}
-use Rattle.ts_spec.specs.Kept.{KeptRule, Kept, Keeping}
-use Rattle.ts_spec.specs.Keeping.{keep_changed, kept_with_rule}
+use Rattle.ts_spec.specs.StoredSeries.{StoredRule, StoredSeries, StoredKeys}
+use Rattle.ts_spec.specs.StoredKeys.{keys_changed, stored_with_rule}
 use Rattle.ts_spec.proofs.Keys.{same-refl, same-true}
 use Rattle.ts_spec.proofs.Tidy.{some-same}
 use Rattle.ts_sample.specs.declared.sample.Id.{Id}
 use Rattle.ts_bucket.specs.Grid.{IsGrid}
 use Rattle.ts_series.specs.History.{IsKept}
 use Rattle.ts_rules.specs.declared.rule.Rule.{Rule}
-use Rattle.ts_rules.specs.Rules.{kept_with_dest}
+use Rattle.ts_rules.specs.Rules.{stored_rule_for}
 use Rattle.ts_db.specs.declared.node.Node.{Node}
 use Rattle.ts_db.specs.declared.store.Store.{Store}
-use Rattle.ts_db.specs.Store.{rules_by, key_at, key_in, kept_node, collected, number_of, stock_of, contents_of, Nodes, HasNode, AreLive, IsLiveSource, HasLiveLinks, HaveGrids, IsNode, IsStore, IsInOrder, Holds}
-use Rattle.ts_db.specs.Linking.{IsKeptBy, IsUnspent, HasMore, HasRules}
-use Rattle.ts_db.specs.Turned.{IsTurned, TakesRule}
+use Rattle.ts_db.specs.Store.{rules_by, key_at, key_in, stored_node, stored_by_key, id_for_key, db_view_of, contents_of, Nodes, HasNode, AreLive, IsLiveSource, HasLiveLinks, HaveGrids, IsNode, IsStore, IsInOrder, Holds}
+use Rattle.ts_db.specs.Linking.{IsStoredChange, CanMakeRule, HasOneMoreRule, HasRules}
+use Rattle.ts_db.specs.NodeChanges.{IsNodeChanged, AddsRule}
 use Rattle.ts_db.proofs.Applying.{there, store-changed, keys-changed}
 use Rattle.ts_db.proofs.OneKey.{changed-alone, unchanged}
-use Rattle.ts_db.proofs.Reaches.{stock-turned}
+use Rattle.ts_db.proofs.Reaches.{db_view-turned}
 
 -- ---- a node that changes its links alone, under its id
 
-module _ (s : Store) (store : IsInOrder s) (id : Id) (new : Nodes) {by : (was now : Node) → Type 0} (t : IsTurned s.nodes new id by) (name : t.now.key ≡ t.was.key) where
+module _ (s : Store) (store : IsInOrder s) (id : Id) (new : Nodes) {by : (was now : Node) → Type 0} (t : IsNodeChanged s.nodes new id by) (name : t.now.key ≡ t.was.key) where
   holds : Holds s t.was.key id t.was
   holds = record { number = store.owned id.0 t.was t.there; node = t.there }
 
@@ -37,32 +37,32 @@ module _ (s : Store) (store : IsInOrder s) (id : Id) (new : Nodes) {by : (was no
   store-turned links sound =
       subst (λ (nodes : Nodes). IsStore s.limits nodes s.keys.entries) (sym t.turned) (store-changed s store t.was.key id t.was t.now holds name links sound)
 
-  kept-changed : HasLiveLinks s.nodes t.now → (stock_of (record s { nodes = new })).keys ≡ with_key t.was.key (kept_node s.nodes t.now) (stock_of s).keys
-  kept-changed links = ap (λ (nodes : Nodes). collected nodes s.keys.entries) t.turned ∙ keys-changed s store t.was.key id t.was t.now holds name links
+  kept-changed : HasLiveLinks s.nodes t.now → (db_view_of (record s { nodes = new })).keys ≡ with_key t.was.key (stored_node s.nodes t.now) (db_view_of s).keys
+  kept-changed links = ap (λ (nodes : Nodes). stored_by_key nodes s.keys.entries) t.turned ∙ keys-changed s store t.was.key id t.was t.now holds name links
 
   -- and f changes the stored data of its key
-  pub kept-turned : (f : Kept → Kept) → HasLiveLinks s.nodes t.now → kept_node s.nodes t.now ≡ f (kept_node s.nodes t.was) → IsKeptBy s id f (record s { nodes = new })
+  pub kept-turned : (f : StoredSeries → StoredSeries) → HasLiveLinks s.nodes t.now → stored_node s.nodes t.now ≡ f (stored_node s.nodes t.was) → IsStoredChange s id f (record s { nodes = new })
   kept-turned f links is =
-      ap (λ (m : Keeping). record (contents_of s) { keys = m })
+      ap (λ (m : StoredKeys). record (contents_of s) { keys = m })
       (kept-changed links
-      ∙ ap (λ (d : Kept). with_key t.was.key d (stock_of s).keys) is
-      ∙ sym (changed-alone (stock_of s).keys t.was.key (kept_node s.nodes t.was) f (there s store t.was.key id t.was holds))
-      ∙ ap (λ (k : Key). keep_changed k f (stock_of s).keys) (sym (ap key_at t.there)))
+      ∙ ap (λ (d : StoredSeries). with_key t.was.key d (db_view_of s).keys) is
+      ∙ sym (changed-alone (db_view_of s).keys t.was.key (stored_node s.nodes t.was) f (there s store t.was.key id t.was holds))
+      ∙ ap (λ (k : Key). keys_changed k f (db_view_of s).keys) (sym (ap key_at t.there)))
 
   -- or nothing changes, if f leaves it
-  pub same-turned : HasLiveLinks s.nodes t.now → t.now.series ≡ t.was.series → kept_node s.nodes t.now ≡ kept_node s.nodes t.was → stock_of (record s { nodes = new }) ≡ stock_of s
+  pub same-turned : HasLiveLinks s.nodes t.now → t.now.series ≡ t.was.series → stored_node s.nodes t.now ≡ stored_node s.nodes t.was → db_view_of (record s { nodes = new }) ≡ db_view_of s
   same-turned links series is =
-      ap (λ (nodes : Nodes). stock_of (record s { nodes = nodes })) t.turned
-      ∙ stock-turned s id.0 t.was t.now t.there series
+      ap (λ (nodes : Nodes). db_view_of (record s { nodes = nodes })) t.turned
+      ∙ db_view-turned s id.0 t.was t.now t.there series
       (keys-changed s store t.was.key id t.was t.now holds name links
-      ∙ ap (λ (d : Kept). with_key t.was.key d (stock_of s).keys) is
-      ∙ unchanged (stock_of s).keys t.was.key (kept_node s.nodes t.was) (there s store t.was.key id t.was holds))
+      ∙ ap (λ (d : StoredSeries). with_key t.was.key d (db_view_of s).keys) is
+      ∙ unchanged (db_view_of s).keys t.was.key (stored_node s.nodes t.was) (there s store t.was.key id t.was holds))
 
 -- ---- a node with other rules
 
 -- the stored data of a node with these rules
-pub kept-rules : (nodes : Nodes) (rs : List Rule) (old new : Node) → HasRules rs old new → kept_node nodes new ≡ record (kept_node nodes old) { rules = rules_by (key_in nodes) rs }
-kept-rules nodes rs old new h = ap (kept_node nodes) h.rest ∙ ap (λ (qs : List Rule). record (kept_node nodes old) { rules = rules_by (key_in nodes) qs }) h.rules
+pub kept-rules : (nodes : Nodes) (rs : List Rule) (old new : Node) → HasRules rs old new → stored_node nodes new ≡ record (stored_node nodes old) { rules = rules_by (key_in nodes) rs }
+kept-rules nodes rs old new h = ap (stored_node nodes) h.rest ∙ ap (λ (qs : List Rule). record (stored_node nodes old) { rules = rules_by (key_in nodes) qs }) h.rules
 
 pub live-rules : (nodes : Nodes) (rs : List Rule) (old new : Node) → HasRules rs old new → AreLive nodes rs → IsLiveSource nodes old.source → HasLiveLinks nodes new
 live-rules nodes rs old new h live source =
@@ -86,7 +86,7 @@ same-name s store a b x y = pick (a.0 == b.0) refl (same (key_in s.nodes a) (key
         let keys : x.node.key ≡ y.node.key = sym (ap key_at x.there) ∙ same-true (key_in s.nodes a) (key_in s.nodes b) f ∙ ap key_at y.there in
         let here : Id = record { 0 = a.0 } in
         let there : Id = record { 0 = b.0 } in
-        let ids : Some here ≡ Some there = sym (store.owned a.0 x.node x.there) ∙ ap (λ (k : Key). number_of k s.keys.entries) keys ∙ store.owned b.0 y.node y.there in
+        let ids : Some here ≡ Some there = sym (store.owned a.0 x.node x.there) ∙ ap (λ (k : Key). id_for_key k s.keys.entries) keys ∙ store.owned b.0 y.node y.there in
         let one : here ≡ there = some-same here there ids in
         let alike : a.0 ≡ b.0 = ap (λ (i : Id). i.0) one in
         absurd (cc (sym e ∙ eq-eqb a.0 b.0 alike))
@@ -99,13 +99,13 @@ module _ (s : Store) (store : IsInOrder s) (dest : Id) (to : HasNode s.nodes des
   unruled [] live = refl
   unruled (r ∷ rs) live =
       go (left r) (unruled rs live.1)
-      ∙ ap (λ b. cond (not b) (kept_with_dest (key_in s.nodes r.dest) r ∷ filter (λ q. not (same q.dest (key_in s.nodes dest))) (rules_by (key_in s.nodes) rs)) (filter (λ q. not (same q.dest (key_in s.nodes dest))) (rules_by (key_in s.nodes) rs)))
+      ∙ ap (λ b. cond (not b) (stored_rule_for (key_in s.nodes r.dest) r ∷ filter (λ q. not (same q.dest (key_in s.nodes dest))) (rules_by (key_in s.nodes) rs)) (filter (λ q. not (same q.dest (key_in s.nodes dest))) (rules_by (key_in s.nodes) rs)))
       (sym (same-name s store r.dest dest live.0 to))
     where
       go : (b : Bool) → rules_by (key_in s.nodes) (filter left rs) ≡ filter (λ q. not (same q.dest (key_in s.nodes dest))) (rules_by (key_in s.nodes) rs)
           → rules_by (key_in s.nodes) (cond b (r ∷ filter left rs) (filter left rs))
-          ≡ cond b (kept_with_dest (key_in s.nodes r.dest) r ∷ filter (λ q. not (same q.dest (key_in s.nodes dest))) (rules_by (key_in s.nodes) rs)) (filter (λ q. not (same q.dest (key_in s.nodes dest))) (rules_by (key_in s.nodes) rs))
-      go true ih = ap (λ (qs : List KeptRule). kept_with_dest (key_in s.nodes r.dest) r ∷ qs) ih
+          ≡ cond b (stored_rule_for (key_in s.nodes r.dest) r ∷ filter (λ q. not (same q.dest (key_in s.nodes dest))) (rules_by (key_in s.nodes) rs)) (filter (λ q. not (same q.dest (key_in s.nodes dest))) (rules_by (key_in s.nodes) rs))
+      go true ih = ap (λ (qs : List StoredRule). stored_rule_for (key_in s.nodes r.dest) r ∷ qs) ih
       go false ih = ih
 
   pub live-left : (rs : List Rule) → AreLive s.nodes rs → AreLive s.nodes (filter left rs)
@@ -134,11 +134,11 @@ grids-more : (rs : List Rule) (r : Rule) → HaveGrids rs → IsGrid r.grid → 
 grids-more [] r g here = (here, tt)
 grids-more (q ∷ rs) r g here = (g.0, grids-more rs r g.1 here)
 
-rules-more : (names : Id → Key) (rs : List Rule) (r : Rule) → rules_by names (rs ++ r ∷ []) ≡ rules_by names rs ++ kept_with_dest (names r.dest) r ∷ []
+rules-more : (names : Id → Key) (rs : List Rule) (r : Rule) → rules_by names (rs ++ r ∷ []) ≡ rules_by names rs ++ stored_rule_for (names r.dest) r ∷ []
 rules-more names [] r = refl
-rules-more names (q ∷ rs) r = ap (λ (qs : List KeptRule). kept_with_dest (names q.dest) q ∷ qs) (rules-more names rs r)
+rules-more names (q ∷ rs) r = ap (λ (qs : List StoredRule). stored_rule_for (names q.dest) q ∷ qs) (rules-more names rs r)
 
-module _ (nodes : Nodes) (dest : Id) (agg : Aggregator) (grid : Grid) (old new : Node) (h : HasMore dest agg grid old new) where
+module _ (nodes : Nodes) (dest : Id) (agg : Aggregator) (grid : Grid) (old new : Node) (h : HasOneMoreRule dest agg grid old new) where
   pub more-name : new.key ≡ old.key
   more-name = ap (λ (x : Node). x.key) h.rest
 
@@ -154,21 +154,21 @@ module _ (nodes : Nodes) (dest : Id) (agg : Aggregator) (grid : Grid) (old new :
         within = x.within;
         born = omega (arith, room);
         labels = x.labels;
-        grids = subst HaveGrids (sym h.rules) (grids-more old.rules.items h.rule x.grids (subst IsGrid (sym (ap (λ (q : KeptRule). q.grid) (h.kept []))) fits));
+        grids = subst HaveGrids (sym h.rules) (grids-more old.rules.items h.rule x.grids (subst IsGrid (sym (ap (λ (q : StoredRule). q.grid) (h.kept []))) fits));
       })
 
-  pub more-kept : kept_node nodes new ≡ kept_with_rule (key_in nodes dest) agg grid (kept_node nodes old)
+  pub more-kept : stored_node nodes new ≡ stored_with_rule (key_in nodes dest) agg grid (stored_node nodes old)
   more-kept =
-      ap (kept_node nodes) h.rest
-      ∙ ap (λ (qs : List KeptRule). record (kept_node nodes old) { born = old.series.born + 1; rules = qs })
+      ap (stored_node nodes) h.rest
+      ∙ ap (λ (qs : List StoredRule). record (stored_node nodes old) { born = old.series.born + 1; rules = qs })
       (ap (rules_by (key_in nodes)) h.rules
       ∙ rules-more (key_in nodes) old.rules.items h.rule
-      ∙ ap (λ (q : KeptRule). rules_by (key_in nodes) old.rules.items ++ q ∷ []) (ap (λ (i : Id). kept_with_dest (key_in nodes i) h.rule) h.leads ∙ h.kept (key_in nodes dest)))
+      ∙ ap (λ (q : StoredRule). rules_by (key_in nodes) old.rules.items ++ q ∷ []) (ap (λ (i : Id). stored_rule_for (key_in nodes i) h.rule) h.leads ∙ h.kept (key_in nodes dest)))
 
 -- a node with one more rule, or with the same rules if memory ran out
 module _ (s : Store) (store : IsInOrder s) (id : Id) (new : Nodes) (dest : Id) (agg : Aggregator) (grid : Grid) (to : HasNode s.nodes dest) where
   abbrev Takes : Result (Unit {0}) AllocError → Type 0
-  Takes r = IsTurned s.nodes new id (TakesRule dest agg grid r)
+  Takes r = IsNodeChanged s.nodes new id (AddsRule dest agg grid r)
 
   had-links : (was now : Node) → slab.get s.nodes id.0 ≡ Some was → HasRules was.rules.items was now → HasLiveLinks s.nodes now
   had-links was now got h = live-rules s.nodes was.rules.items was now h (store.live id.0 was got).rules (store.live id.0 was got).source
@@ -178,7 +178,7 @@ module _ (s : Store) (store : IsInOrder s) (id : Id) (new : Nodes) (dest : Id) (
   name-more (Ok x) t = more-name s.nodes dest agg grid t.was t.now t.so.added
   name-more (Err e) t = ap (λ (y : Node). y.key) t.so.unchanged.rest
 
-  pub store-more : (r : Result (Unit {0}) AllocError) (t : Takes r) → IsUnspent s.limits t.was → IsGrid grid → IsStore s.limits new s.keys.entries
+  pub store-more : (r : Result (Unit {0}) AllocError) (t : Takes r) → CanMakeRule s.limits t.was → IsGrid grid → IsStore s.limits new s.keys.entries
   store-more (Ok x) t room fits =
       store-turned s store id new t (name-more (Ok x) t) (more-links s.nodes dest agg grid t.was t.now t.so.added (store.live id.0 t.was t.there) to)
       (more-node s.nodes dest agg grid t.was t.now t.so.added s.limits (store.each id.0 t.was t.there) room.within fits t.so.kept)
@@ -186,13 +186,13 @@ module _ (s : Store) (store : IsInOrder s) (id : Id) (new : Nodes) (dest : Id) (
       store-turned s store id new t (name-more (Err e) t) (had-links t.was t.now t.there t.so.unchanged)
       (node-rules s.limits t.was.rules.items t.was t.now t.so.unchanged (store.each id.0 t.was t.there).grids (store.each id.0 t.was t.there))
 
-  pub kept-more : (r : Result (Unit {0}) AllocError) → Takes r → IfOk r (λ x. IsKeptBy s id (kept_with_rule (key_in s.nodes dest) agg grid) (record s { nodes = new }))
+  pub kept-more : (r : Result (Unit {0}) AllocError) → Takes r → IfOk r (λ x. IsStoredChange s id (stored_with_rule (key_in s.nodes dest) agg grid) (record s { nodes = new }))
   kept-more (Ok x) t =
-      kept-turned s store id new t (name-more (Ok x) t) (kept_with_rule (key_in s.nodes dest) agg grid)
+      kept-turned s store id new t (name-more (Ok x) t) (stored_with_rule (key_in s.nodes dest) agg grid)
       (more-links s.nodes dest agg grid t.was t.now t.so.added (store.live id.0 t.was t.there) to) (more-kept s.nodes dest agg grid t.was t.now t.so.added)
   kept-more (Err e) t = tt
 
-  pub none-more : (r : Result (Unit {0}) AllocError) → Takes r → IfErr r (λ x. stock_of (record s { nodes = new }) ≡ stock_of s)
+  pub none-more : (r : Result (Unit {0}) AllocError) → Takes r → IfErr r (λ x. db_view_of (record s { nodes = new }) ≡ db_view_of s)
   none-more (Ok x) t = tt
   none-more (Err e) t =
       same-turned s store id new t (name-more (Err e) t) (had-links t.was t.now t.there t.so.unchanged) (ap (λ (y : Node). y.series) t.so.unchanged.rest)

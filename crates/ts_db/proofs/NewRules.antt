@@ -10,20 +10,20 @@ use Rattle.ts_spec.specs.Key.{Key, same}
 use Rattle.ts_spec.specs.Keyed.{get}
 use Rattle.ts_spec.specs.Refusal.{Refusal, NoKey, SameKey, SourceIsDest, DestIsSource, DestHasSource, RulesSpent, RulesFull}
 use Rattle.ts_spec.specs.Response.{Done}
-use Rattle.ts_spec.specs.Kept.{Kept, Keeping}
-use Rattle.ts_spec.specs.Keeping.{keep_changed, keep_ruled, kept_with_rule}
-use Rattle.ts_spec.specs.KeptStep.{KeptOutcome, kept_refused, any_rules, kept_create_rule, kept_create_rule_at}
-use Rattle.ts_spec.proofs.KeptMaps.{some-mapped}
+use Rattle.ts_spec.specs.StoredSeries.{StoredSeries, StoredKeys}
+use Rattle.ts_spec.specs.StoredKeys.{keys_changed, keys_ruled, stored_with_rule}
+use Rattle.ts_spec.specs.StoredStep.{StoredOutcome, stored_refused, any_rules, stored_create_rule, stored_create_rule_at}
+use Rattle.ts_spec.proofs.StoredMaps.{some-mapped}
 use Rattle.ts_sample.specs.declared.sample.Id.{Id}
 use Rattle.ts_rules.specs.declared.rule.Rule.{Rule}
 use Rattle.ts_db.specs.declared.fault.DbFault.{DbFault}
 use Rattle.ts_db.specs.declared.node.Node.{Node}
 use Rattle.ts_db.specs.declared.store.Store.{Store}
-use Rattle.ts_db.specs.Answering.{IsKeptAnswer, IsElsewhere}
+use Rattle.ts_db.specs.Answering.{IsStoredAnswer, IsElsewhere}
 use Rattle.ts_db.specs.Faults.{refusal_of}
-use Rattle.ts_db.specs.Held.{YieldsToMemory}
-use Rattle.ts_db.specs.Linking.{kept_sourced, any_rule, barred_by, IsKeptBy, IsReason}
-use Rattle.ts_db.specs.Store.{rules_by, key_in, kept_named, kept_node, stock_of, contents_of, Contents, IsInOrder, Holds}
+use Rattle.ts_db.specs.DbState.{AllowsOutOfMemory}
+use Rattle.ts_db.specs.Linking.{stored_with_source, any_rule, rule_conflict_refusal, IsStoredChange, IsRuleConflict}
+use Rattle.ts_db.specs.Store.{rules_by, key_in, stored_named, stored_node, db_view_of, contents_of, Contents, IsInOrder, Holds}
 use Rattle.ts_db.proofs.Applying.{there}
 use Rattle.ts_db.proofs.Collecting.{same-at}
 use Rattle.ts_db.proofs.Known.{named}
@@ -41,12 +41,12 @@ many-by names [] = refl
 many-by names (r ∷ rs) = ap suc (many-by names rs)
 
 -- a refusal, or else what is done
-abbrev unless_barred : Keeping → Option Refusal → KeptOutcome → KeptOutcome
+abbrev unless_barred : StoredKeys → Option Refusal → StoredOutcome → StoredOutcome
 unless_barred m None done = done
-unless_barred m (Some refusal) done = kept_refused m refusal
+unless_barred m (Some refusal) done = stored_refused m refusal
 
-tests : (m : Keeping) (done : KeptOutcome) (a b c d e : Bool)
-    → (if a then kept_refused m SourceIsDest else (if b then kept_refused m DestIsSource else (if c then kept_refused m DestHasSource else (if d then kept_refused m RulesSpent else (if e then kept_refused m RulesFull else done)))))
+tests : (m : StoredKeys) (done : StoredOutcome) (a b c d e : Bool)
+    → (if a then stored_refused m SourceIsDest else (if b then stored_refused m DestIsSource else (if c then stored_refused m DestHasSource else (if d then stored_refused m RulesSpent else (if e then stored_refused m RulesFull else done)))))
     ≡ unless_barred m (if a then Some SourceIsDest else (if b then Some DestIsSource else (if c then Some DestHasSource else (if d then Some RulesSpent else (if e then Some RulesFull else None))))) done
 tests m done true b c d e = refl
 tests m done false true c d e = refl
@@ -55,13 +55,13 @@ tests m done false false false true e = refl
 tests m done false false false false true = refl
 tests m done false false false false false = refl
 
-module _ (limits : Limits) (m : Keeping) (source dest : Key) (agg : Aggregator) (grid : Grid) where
-  abbrev done : KeptOutcome
-  done = record { keys = keep_ruled source dest agg grid m; response = Done }
+module _ (limits : Limits) (m : StoredKeys) (source dest : Key) (agg : Aggregator) (grid : Grid) where
+  abbrev done : StoredOutcome
+  done = record { keys = keys_ruled source dest agg grid m; response = Done }
 
   -- the step of two nodes
-  pub rule-barred : (names : Id → Key) (n d : Node) → kept_create_rule_at limits m source dest agg grid (Some (kept_named names n)) (Some (kept_named names d)) ≡ unless_barred m (barred_by limits n d) done
-  rule-barred names n d =
+  pub rule-rule_conflict : (names : Id → Key) (n d : Node) → stored_create_rule_at limits m source dest agg grid (Some (stored_named names n)) (Some (stored_named names d)) ≡ unless_barred m (rule_conflict_refusal limits n d) done
+  rule-rule_conflict names n d =
       tests m done (is_some (option_map names n.source)) (any_rules (rules_by names d.rules.items)) (is_some (option_map names d.source)) (nat_le limits.born n.series.born) (nat_le limits.rules (length (rules_by names n.rules.items)))
       ∙ ap (λ b. unless_barred m (if b then Some SourceIsDest else (if any_rules (rules_by names d.rules.items) then Some DestIsSource else (if is_some (option_map names d.source) then Some DestHasSource
       else (if nat_le limits.born n.series.born then Some RulesSpent else (if nat_le limits.rules (length (rules_by names n.rules.items)) then Some RulesFull else None))))) done) (some-mapped names n.source)
@@ -73,52 +73,52 @@ module _ (limits : Limits) (m : Keeping) (source dest : Key) (agg : Aggregator) 
       else (if nat_le limits.born n.series.born then Some RulesSpent else (if nat_le limits.rules k then Some RulesFull else None))))) done) (many-by names n.rules.items)
 
   -- a key that is missing
-  pub no-source : same source dest ≡ false → get source m ≡ None → kept_create_rule limits m source dest agg grid ≡ kept_refused m NoKey
+  pub no-source : same source dest ≡ false → get source m ≡ None → stored_create_rule limits m source dest agg grid ≡ stored_refused m NoKey
   no-source apart none =
-      ap (λ b. if b then kept_refused m SameKey else kept_create_rule_at limits m source dest agg grid (get source m) (get dest m)) apart
-      ∙ ap (λ (o : Option Kept). kept_create_rule_at limits m source dest agg grid o (get dest m)) none
+      ap (λ b. if b then stored_refused m SameKey else stored_create_rule_at limits m source dest agg grid (get source m) (get dest m)) apart
+      ∙ ap (λ (o : Option StoredSeries). stored_create_rule_at limits m source dest agg grid o (get dest m)) none
 
-  pub no-dest : (d : Kept) → same source dest ≡ false → get source m ≡ Some d → get dest m ≡ None → kept_create_rule limits m source dest agg grid ≡ kept_refused m NoKey
+  pub no-dest : (d : StoredSeries) → same source dest ≡ false → get source m ≡ Some d → get dest m ≡ None → stored_create_rule limits m source dest agg grid ≡ stored_refused m NoKey
   no-dest d apart is none =
-      ap (λ b. if b then kept_refused m SameKey else kept_create_rule_at limits m source dest agg grid (get source m) (get dest m)) apart
-      ∙ ap (λ (o : Option Kept). kept_create_rule_at limits m source dest agg grid o (get dest m)) is
-      ∙ ap (λ (o : Option Kept). kept_create_rule_at limits m source dest agg grid (Some d) o) none
+      ap (λ b. if b then stored_refused m SameKey else stored_create_rule_at limits m source dest agg grid (get source m) (get dest m)) apart
+      ∙ ap (λ (o : Option StoredSeries). stored_create_rule_at limits m source dest agg grid o (get dest m)) is
+      ∙ ap (λ (o : Option StoredSeries). stored_create_rule_at limits m source dest agg grid (Some d) o) none
 
 module _ (s : Store) (store : IsInOrder s) (source dest : Key) (from to : Id) (n d : Node) (holds : Holds s source from n) (other : Holds s dest to d) (apart : same source dest ≡ false) (agg : Aggregator) (grid : Grid) where
   -- the step, by the nodes of both keys
-  step-by : kept_create_rule s.limits (stock_of s).keys source dest agg grid
-      ≡ unless_barred (stock_of s).keys (barred_by s.limits n d) (record { keys = keep_ruled source dest agg grid (stock_of s).keys; response = Done })
+  step-by : stored_create_rule s.limits (db_view_of s).keys source dest agg grid
+      ≡ unless_barred (db_view_of s).keys (rule_conflict_refusal s.limits n d) (record { keys = keys_ruled source dest agg grid (db_view_of s).keys; response = Done })
   step-by =
-      ap (λ b. if b then kept_refused (stock_of s).keys SameKey else kept_create_rule_at s.limits (stock_of s).keys source dest agg grid (get source (stock_of s).keys) (get dest (stock_of s).keys)) apart
-      ∙ ap (λ (o : Option Kept). kept_create_rule_at s.limits (stock_of s).keys source dest agg grid o (get dest (stock_of s).keys)) (there s store source from n holds)
-      ∙ ap (λ (o : Option Kept). kept_create_rule_at s.limits (stock_of s).keys source dest agg grid (Some (kept_node s.nodes n)) o) (there s store dest to d other)
-      ∙ rule-barred s.limits (stock_of s).keys source dest agg grid (key_in s.nodes) n d
+      ap (λ b. if b then stored_refused (db_view_of s).keys SameKey else stored_create_rule_at s.limits (db_view_of s).keys source dest agg grid (get source (db_view_of s).keys) (get dest (db_view_of s).keys)) apart
+      ∙ ap (λ (o : Option StoredSeries). stored_create_rule_at s.limits (db_view_of s).keys source dest agg grid o (get dest (db_view_of s).keys)) (there s store source from n holds)
+      ∙ ap (λ (o : Option StoredSeries). stored_create_rule_at s.limits (db_view_of s).keys source dest agg grid (Some (stored_node s.nodes n)) o) (there s store dest to d other)
+      ∙ rule-rule_conflict s.limits (db_view_of s).keys source dest agg grid (key_in s.nodes) n d
 
   -- where there is a reason against it
-  pub barred-answer : (fault : DbFault) → IsReason s.limits n d (Some fault) → IsKeptAnswer (refusal_of (stock_of s).ids fault) (stock_of s).keys (kept_create_rule s.limits (stock_of s).keys source dest agg grid)
-  barred-answer fault reason = go (refusal_of (stock_of s).ids fault) (reason (stock_of s).ids)
+  pub rule_conflict-answer : (fault : DbFault) → IsRuleConflict s.limits n d (Some fault) → IsStoredAnswer (refusal_of (db_view_of s).ids fault) (db_view_of s).keys (stored_create_rule s.limits (db_view_of s).keys source dest agg grid)
+  rule_conflict-answer fault reason = go (refusal_of (db_view_of s).ids fault) (reason (db_view_of s).ids)
     where
-      go : (o : Option Refusal) → o ≡ barred_by s.limits n d → IsKeptAnswer o (stock_of s).keys (kept_create_rule s.limits (stock_of s).keys source dest agg grid)
+      go : (o : Option Refusal) → o ≡ rule_conflict_refusal s.limits n d → IsStoredAnswer o (db_view_of s).keys (stored_create_rule s.limits (db_view_of s).keys source dest agg grid)
       go None e =
-          subst (λ (o : KeptOutcome). YieldsToMemory o.response)
-          (sym (step-by ∙ ap (λ (o : Option Refusal). unless_barred (stock_of s).keys o (record { keys = keep_ruled source dest agg grid (stock_of s).keys; response = Done })) (sym e))) tt
-      go (Some refusal) e = step-by ∙ ap (λ (o : Option Refusal). unless_barred (stock_of s).keys o (record { keys = keep_ruled source dest agg grid (stock_of s).keys; response = Done })) (sym e)
+          subst (λ (o : StoredOutcome). AllowsOutOfMemory o.response)
+          (sym (step-by ∙ ap (λ (o : Option Refusal). unless_barred (db_view_of s).keys o (record { keys = keys_ruled source dest agg grid (db_view_of s).keys; response = Done })) (sym e))) tt
+      go (Some refusal) e = step-by ∙ ap (λ (o : Option Refusal). unless_barred (db_view_of s).keys o (record { keys = keys_ruled source dest agg grid (db_view_of s).keys; response = Done })) (sym e)
 
   -- where there is none
-  pub unbarred-answer : IsReason s.limits n d None → kept_create_rule s.limits (stock_of s).keys source dest agg grid ≡ record { keys = keep_ruled source dest agg grid (stock_of s).keys; response = Done }
-  unbarred-answer reason = step-by ∙ ap (λ (o : Option Refusal). unless_barred (stock_of s).keys o (record { keys = keep_ruled source dest agg grid (stock_of s).keys; response = Done })) reason.0
+  pub unbarred-answer : IsRuleConflict s.limits n d None → stored_create_rule s.limits (db_view_of s).keys source dest agg grid ≡ record { keys = keys_ruled source dest agg grid (db_view_of s).keys; response = Done }
+  unbarred-answer reason = step-by ∙ ap (λ (o : Option Refusal). unless_barred (db_view_of s).keys o (record { keys = keys_ruled source dest agg grid (db_view_of s).keys; response = Done })) reason.0
 
-  pub unbarred-yields : IsReason s.limits n d None → YieldsToMemory (kept_create_rule s.limits (stock_of s).keys source dest agg grid).response
-  unbarred-yields reason = subst (λ (o : KeptOutcome). YieldsToMemory o.response) (sym (unbarred-answer reason)) tt
+  pub unbarred-yields : IsRuleConflict s.limits n d None → AllowsOutOfMemory (stored_create_rule s.limits (db_view_of s).keys source dest agg grid).response
+  unbarred-yields reason = subst (λ (o : StoredOutcome). AllowsOutOfMemory o.response) (sym (unbarred-answer reason)) tt
 
   -- both changes together give the stored data afterwards
-  pub both-ruled : (mid new : Store) → IsElsewhere s mid from → IsKeptBy s from (kept_with_rule (key_in s.nodes to) agg grid) mid → IsKeptBy mid to (kept_sourced (Some (key_in mid.nodes from))) new
-      → contents_of new ≡ record (contents_of s) { keys = keep_ruled source dest agg grid (stock_of s).keys }
+  pub both-ruled : (mid new : Store) → IsElsewhere s mid from → IsStoredChange s from (stored_with_rule (key_in s.nodes to) agg grid) mid → IsStoredChange mid to (stored_with_source (Some (key_in mid.nodes from))) new
+      → contents_of new ≡ record (contents_of s) { keys = keys_ruled source dest agg grid (db_view_of s).keys }
   both-ruled mid new elsewhere added set =
       set
-      ∙ ap (λ (x : Contents). record x { keys = keep_changed (key_in mid.nodes to) (kept_sourced (Some (key_in mid.nodes from))) x.keys }) added
+      ∙ ap (λ (x : Contents). record x { keys = keys_changed (key_in mid.nodes to) (stored_with_source (Some (key_in mid.nodes from))) x.keys }) added
       ∙ (let here : key_in mid.nodes to ≡ dest = elsewhere.names to ∙ named s store dest to d other in
       let origin : key_in mid.nodes from ≡ source = elsewhere.names from ∙ named s store source from n holds in
       let own : key_in s.nodes from ≡ source = named s store source from n holds in
       let goal : key_in s.nodes to ≡ dest = named s store dest to d other in
-      λ i. record (contents_of s) { keys = keep_changed (here i) (kept_sourced (Some (origin i))) (keep_changed (own i) (kept_with_rule (goal i) agg grid) (stock_of s).keys) })
+      λ i. record (contents_of s) { keys = keys_changed (here i) (stored_with_source (Some (origin i))) (keys_changed (own i) (stored_with_rule (goal i) agg grid) (db_view_of s).keys) })

@@ -15,7 +15,7 @@ use Rattle.std.proofs.lemmas.Map.Keys.{IsDistinct-head, IsDistinct-tail, IsDisti
 use Rattle.std.proofs.lemmas.Map.Lookups.{exact_unsigned}
 use Rattle.ts_spec.specs.State.{Label}
 use Rattle.ts_sample.specs.declared.sample.Id.{Id}
-use Rattle.ts_index.specs.Index.{Labelled, labels_of, numbers_where}
+use Rattle.ts_index.specs.Index.{Labelled, labels_of, ids_where}
 use Rattle.ts_index.specs.Numbers.{AreInOrder}
 
 -- whether an id is this one
@@ -51,11 +51,11 @@ none-some ls e = true≢false (ap is_some e)
 
 module _ (test : List Label → Bool) where
   -- one more at the front of both
-  both : (e : ℕ × List Label) (xs ys : Labelled) → IsPermutation (numbers_where test xs) (numbers_where test ys) → IsPermutation (numbers_where test (e ∷ xs)) (numbers_where test (e ∷ ys))
+  both : (e : ℕ × List Label) (xs ys : Labelled) → IsPermutation (ids_where test xs) (ids_where test ys) → IsPermutation (ids_where test (e ∷ xs)) (ids_where test (e ∷ ys))
   both e xs ys p = go (test e.1)
     where
-      go : (b : Bool) → IsPermutation (if b then record { 0 = e.0 } ∷ numbers_where test xs else numbers_where test xs) (if b then record { 0 = e.0 } ∷ numbers_where test ys else numbers_where test ys)
-      go true = IsPermutation-cons (record { 0 = e.0 }) (numbers_where test xs) (numbers_where test ys) p
+      go : (b : Bool) → IsPermutation (if b then record { 0 = e.0 } ∷ ids_where test xs else ids_where test xs) (if b then record { 0 = e.0 } ∷ ids_where test ys else ids_where test ys)
+      go true = IsPermutation-cons (record { 0 = e.0 }) (ids_where test xs) (ids_where test ys) p
       go false = p
 
   -- an id in front of others, where it passes
@@ -63,20 +63,20 @@ module _ (test : List Label → Bool) where
   some b i l = if b then record { 0 = i } ∷ l else l
 
   -- the first two change places
-  turned : (d e : ℕ × List Label) (xs : Labelled) → IsPermutation (numbers_where test (d ∷ e ∷ xs)) (numbers_where test (e ∷ d ∷ xs))
+  turned : (d e : ℕ × List Label) (xs : Labelled) → IsPermutation (ids_where test (d ∷ e ∷ xs)) (ids_where test (e ∷ d ∷ xs))
   turned d e xs = go (test d.1) (test e.1)
     where
-      go : (a b : Bool) → IsPermutation (some a d.0 (some b e.0 (numbers_where test xs))) (some b e.0 (some a d.0 (numbers_where test xs)))
-      go true true = IsPermutation-swap (record { 0 = d.0 } ∷ record { 0 = e.0 } ∷ numbers_where test xs) (record { 0 = e.0 } ∷ record { 0 = d.0 } ∷ numbers_where test xs) 0 1 (omega arith) (omega arith) refl
+      go : (a b : Bool) → IsPermutation (some a d.0 (some b e.0 (ids_where test xs))) (some b e.0 (some a d.0 (ids_where test xs)))
+      go true true = IsPermutation-swap (record { 0 = d.0 } ∷ record { 0 = e.0 } ∷ ids_where test xs) (record { 0 = e.0 } ∷ record { 0 = d.0 } ∷ ids_where test xs) 0 1 (omega arith) (omega arith) refl
       go true false = IsPermutation-refl _
       go false true = IsPermutation-refl _
       go false false = IsPermutation-refl _
 
-  same : (xs ys : Labelled) → xs ≡ ys → IsPermutation (numbers_where test xs) (numbers_where test ys)
-  same xs ys e = subst (λ (l : Labelled). IsPermutation (numbers_where test xs) (numbers_where test l)) e (IsPermutation-refl (numbers_where test xs))
+  same : (xs ys : Labelled) → xs ≡ ys → IsPermutation (ids_where test xs) (ids_where test ys)
+  same xs ys e = subst (λ (l : Labelled). IsPermutation (ids_where test xs) (ids_where test l)) e (IsPermutation-refl (ids_where test xs))
 
   -- an id that is there comes to the front
-  pulled : (q : ℕ) (v : List Label) (es : Labelled) → labels_of q es ≡ Some v → IsPermutation (numbers_where test es) (numbers_where test ((q, v) ∷ remove_entry (at q) es))
+  pulled : (q : ℕ) (v : List Label) (es : Labelled) → labels_of q es ≡ Some v → IsPermutation (ids_where test es) (ids_where test ((q, v) ∷ remove_entry (at q) es))
   pulled q v [] h = absurd (none-some v (sym h))
   pulled q v (e ∷ es) h =
       let more : Labelled = remove_entry (at q) es in
@@ -91,7 +91,7 @@ module _ (test : List Label → Bool) where
       (cases_Bool (at q e.0))
 
   -- Where each id is there once at most, and has the same labels in both, the same ids pass.
-  pub same-numbers : (xs ys : Labelled) → IsDistinct at (keys_of xs) → IsDistinct at (keys_of ys) → ((i : ℕ) → labels_of i xs ≡ labels_of i ys) → IsPermutation (numbers_where test xs) (numbers_where test ys)
+  pub same-numbers : (xs ys : Labelled) → IsDistinct at (keys_of xs) → IsDistinct at (keys_of ys) → ((i : ℕ) → labels_of i xs ≡ labels_of i ys) → IsPermutation (ids_where test xs) (ids_where test ys)
   same-numbers [] [] c d h = IsPermutation-refl []
   same-numbers [] (y ∷ ys) c d h = absurd (none-some y.1 (sym (h y.0 ∙ lookup_head (at y.0) y ys (laws.refl y.0))))
   same-numbers (x ∷ xs) ys c d h =

@@ -15,7 +15,7 @@ use Rattle.ts_spec.specs.State.{Record, State, edge, link_to, rule_to}
 use Rattle.ts_spec.specs.Refusal.{Refusal, DestinationFull}
 use Rattle.ts_spec.specs.Response.{Response, Done, Count, Refused}
 use Rattle.ts_spec.specs.Command.{Spec, Change}
-use Rattle.ts_spec.specs.Rules.{shown, Merged, Refuse, Keep, To, merge, within_bound}
+use Rattle.ts_spec.specs.Rules.{shown, Merged, Refuse, KeepOld, To, merge, within_bound}
 use Rattle.ts_spec.specs.Ignoring.{ignored}
 use Rattle.ts_spec.specs.Step.{Outcome, refused, create, new_key, alter_at, is_longer, value_at, unless_ignored, write, write_merged, increased, within_destinations, first_full, unless_full, rules_at, add_at, put_at, incr_at, is_before_last, changed_value, meets_expired, delete_at, has_rules, create_rule, create_rule_at, delete_rule_at}
 
@@ -44,7 +44,7 @@ destinations limits m key o f = go (first_full limits.samples o.state (rules_at 
 
 merged : (limits : Limits) (m : State) (key : Key) (t : ℕ) (what : Merged) → Refuses m (write_merged limits m key t what)
 merged limits m key t (Refuse q) = refusal m q
-merged limits m key t Keep = counts m m t
+merged limits m key t KeepOld = counts m m t
 merged limits m key t (To v) = choice m _ _ _ (refusal m _) (destinations limits m key _ (counts m _ t))
 
 unless : (m : State) (o : Option ℕ) (done : Outcome) → Refuses m done → Refuses m (unless_ignored m o done)
@@ -53,7 +53,7 @@ unless m (Some last) done f = counts m m last
 
 increases : (limits : Limits) (m : State) (key : Key) (d : Record) (t : ℕ) (what : Merged) → Refuses m (increased limits m key d t what)
 increases limits m key d t (Refuse q) = refusal m q
-increases limits m key d t Keep = counts m m t
+increases limits m key d t KeepOld = counts m m t
 increases limits m key d t (To v) = unless m (ignored m key d t v) (write_merged limits m key t (To v)) (merged limits m key t (To v))
 
 writes : (limits : Limits) (m : State) (key : Key) (d : Record) (how : Merge) (t : ℕ) (v : ℤ) → Refuses m (write limits m key d how t v)

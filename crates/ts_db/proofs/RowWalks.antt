@@ -5,8 +5,8 @@ use Rattle.std.proofs.lemmas.Bool.Decides.{nat_tests}
 use Rattle.ts_spec.specs.Sample.{Point, IsAfter, IsAscending, at_times, put}
 use Rattle.ts_sample.specs.Visit.{visited}
 use Rattle.ts_sample.proofs.Replacing.{none-before, all-past}
-use Rattle.ts_db.specs.declared.among.RowAmong.{RowAmong}
-use Rattle.ts_db.specs.RowAmong.{with_sample, finished, room_beside}
+use Rattle.ts_db.specs.declared.row_merger.RowMerger.{RowMerger}
+use Rattle.ts_db.specs.RowMerger.{with_sample, finished, capacity_beside}
 use Rattle.ts_db.proofs.Rows.{later}
 
 -- ---- a row put into a list
@@ -46,13 +46,13 @@ module _ {V : Type 0} (step : V → Point → V) where
   with-row b row [] h = refl
   with-row b row (q ∷ qs) h = go (with-row (record b { now = step b.now q }) row qs h.1) (nat_lt q.time row.time) refl
     where
-      goal : List Point → RowAmong V
+      goal : List Point → RowMerger V
       goal l = record { visit = record b { now = visited step b.now l }; row = None }
 
       state : (b c : Bool) → V
       state x y = if x then step b.now q else (if y then step (step b.now row) q else step b.now row)
 
-      after : (x y : Bool) → RowAmong V
+      after : (x y : Bool) → RowMerger V
       after x y = finished step (visited (with_sample step) (record { visit = record b { now = state x y }; row = if x then Some row else None }) qs)
 
       past : (y : Bool) → nat_lt row.time q.time ≡ y → after false y ≡ goal (row ∷ (if y then q ∷ qs else qs))
@@ -72,7 +72,7 @@ module _ {V : Type 0} (step : V → Point → V) where
   -- if the row is still pending, there is capacity for it
   module _ (room : V → ℕ) (lowers : (v : V) (p : Point) → room v ≤ room (step v p) + 1) where
     none-waits : (b : MutBor V) (ps : List Point) (row : Point) → (visited (with_sample step) (record { visit = b; row = None }) ps).row ≡ Some row → ⊥
-    none-waits b ps row e = absurd (cc (sym (ap (λ (w : RowAmong V). w.row) (without-row b ps)) ∙ e))
+    none-waits b ps row e = absurd (cc (sym (ap (λ (w : RowMerger V). w.row) (without-row b ps)) ∙ e))
 
     pub room-waits : (b : MutBor V) (row last : Point) (ps : List Point) → (visited (with_sample step) (record { visit = b; row = Some row }) ps).row ≡ Some last
         → room b.now ≤ room (visited (with_sample step) (record { visit = b; row = Some row }) ps).visit.now + length ps
@@ -82,7 +82,7 @@ module _ {V : Type 0} (step : V → Point → V) where
         state : (x y : Bool) → V
         state x y = if x then step b.now q else (if y then step (step b.now row) q else step b.now row)
 
-        after : (x y : Bool) → RowAmong V
+        after : (x y : Bool) → RowMerger V
         after x y = visited (with_sample step) (record { visit = record b { now = state x y }; row = if x then Some row else None }) qs
 
         go : ((after true true).row ≡ Some last → room (step b.now q) ≤ room (after true true).visit.now + length qs)
@@ -91,35 +91,35 @@ module _ {V : Type 0} (step : V → Point → V) where
         go rest false true e = absurd (none-waits (record b { now = step (step b.now row) q }) qs last e)
         go rest false false e = absurd (none-waits (record b { now = step b.now row }) qs last e)
 
-    room-left : (w : RowAmong V) (last : Point) (ps : List Point) → length ps + 1 ≤ room w.visit.now → (visited (with_sample step) w ps).row ≡ Some last → 1 ≤ room (visited (with_sample step) w ps).visit.now
+    room-left : (w : RowMerger V) (last : Point) (ps : List Point) → length ps + 1 ≤ room w.visit.now → (visited (with_sample step) w ps).row ≡ Some last → 1 ≤ room (visited (with_sample step) w ps).visit.now
     room-left w last ps enough e = go w.row e
       where
         go : (o : Option Point) → (visited (with_sample step) (record { visit = w.visit; row = o }) ps).row ≡ Some last → 1 ≤ room (visited (with_sample step) (record { visit = w.visit; row = o }) ps).visit.now
         go None e = absurd (none-waits w.visit ps last e)
         go (Some row) e = omega (arith, enough, room-waits w.visit row last ps e)
 
-    pub room-still : (w mid : RowAmong V) (last : Point) (ps : List Point) → length ps + 1 ≤ room w.visit.now → mid ≡ visited (with_sample step) w ps → mid.row ≡ Some last → 1 ≤ room mid.visit.now
+    pub room-still : (w mid : RowMerger V) (last : Point) (ps : List Point) → length ps + 1 ≤ room w.visit.now → mid ≡ visited (with_sample step) w ps → mid.row ≡ Some last → 1 ≤ room mid.visit.now
     room-still w mid last ps enough is e =
-        subst (λ (x : RowAmong V). 1 ≤ room x.visit.now) (sym is) (room-left w last ps enough (sym (ap (λ (x : RowAmong V). x.row) is) ∙ e))
+        subst (λ (x : RowMerger V). 1 ≤ room x.visit.now) (sym is) (room-left w last ps enough (sym (ap (λ (x : RowMerger V). x.row) is) ∙ e))
 
   -- the visitor behind stays the same one
-  same-reference : (w : RowAmong V) (ps : List Point) → (visited (with_sample step) w ps).visit.ghost_name ≡ w.visit.ghost_name
+  same-reference : (w : RowMerger V) (ps : List Point) → (visited (with_sample step) w ps).visit.ghost_name ≡ w.visit.ghost_name
   same-reference w [] = refl
   same-reference w (p ∷ ps) = same-reference (with_sample step w p) ps
 
-  pub still-same : (w mid new : RowAmong V) (ps : List Point) → mid ≡ visited (with_sample step) w ps → new ≡ finished step mid → new.visit.ghost_name ≡ w.visit.ghost_name
-  still-same w mid new ps walk end = ap (λ (x : RowAmong V). x.visit.ghost_name) end ∙ ap (λ (x : RowAmong V). x.visit.ghost_name) walk ∙ same-reference w ps
+  pub still-same : (w mid new : RowMerger V) (ps : List Point) → mid ≡ visited (with_sample step) w ps → new ≡ finished step mid → new.visit.ghost_name ≡ w.visit.ghost_name
+  still-same w mid new ps walk end = ap (λ (x : RowMerger V). x.visit.ghost_name) end ∙ ap (λ (x : RowMerger V). x.visit.ghost_name) walk ∙ same-reference w ps
 
   -- and has taken the row among the samples
-  pub walked-with : (w mid new : RowAmong V) (row : Point) (ps : List Point) → IsAscending ps → w.row ≡ Some row → mid ≡ visited (with_sample step) w ps → new ≡ finished step mid
+  pub in_key_order-with : (w mid new : RowMerger V) (row : Point) (ps : List Point) → IsAscending ps → w.row ≡ Some row → mid ≡ visited (with_sample step) w ps → new ≡ finished step mid
       → new.visit.now ≡ visited step w.visit.now (put row ps)
-  walked-with w mid new row ps h waits walk end =
-      ap (λ (x : RowAmong V). x.visit.now)
+  in_key_order-with w mid new row ps h waits walk end =
+      ap (λ (x : RowMerger V). x.visit.now)
       (end ∙ ap (finished step) walk
       ∙ ap (λ (o : Option Point). finished step (visited (with_sample step) (record { visit = w.visit; row = o }) ps)) waits
       ∙ with-row w.visit row ps h)
 
 -- the room of the visitor behind is enough for both
-pub beside-room : (room n : ℕ) (o : Option Point) → n + 1 ≤ room → n ≤ room_beside room o
+pub beside-room : (room n : ℕ) (o : Option Point) → n + 1 ≤ room → n ≤ capacity_beside room o
 beside-room room n None enough = omega (arith, enough)
 beside-room room n (Some row) enough = omega (arith, enough)

@@ -5,7 +5,7 @@ use Rattle.std.specs.Option.{option_or}
 use Rattle.std.proofs.lemmas.Bool.Decides.{nat_tests}
 use Rattle.ts_spec.specs.Sample.{Point, IsAfter, IsAscending, at, at_times, is_within, between, put, put_all, first_of, last_of, later_or}
 use Rattle.ts_rules.specs.Rules.{one_of}
-use Rattle.ts_db.specs.Held.{ends_of}
+use Rattle.ts_db.specs.DbState.{ends_of}
 use Rattle.ts_spec.proofs.Samples.{at-times, at-put_all, ascending-times, ascending-put_all, ascending-same}
 use Rattle.ts_spec.proofs.Tidy.{some-same}
 use Rattle.ts_sample.proofs.Replacing.{none-before, all-past}

@@ -2,7 +2,7 @@
 use Rattle.std.proofs.Common.{◌≡◌, ℕ, ℤ, refl, sym, ◌∙◌, ap}
 use Rattle.std.specs.Prelude.{None, Some, Ok, Err}
 use Rattle.ts_spec.specs.Sample.{Point, first_of}
-use Rattle.ts_spec.specs.Rules.{Merged, Refuse, Keep, To}
+use Rattle.ts_spec.specs.Rules.{Merged, Refuse, KeepOld, To}
 use Rattle.ts_spec.proofs.Tidy.{some-same}
 use Rattle.ts_series.specs.History.{History}
 use Rattle.ts_series.specs.Plan.{Plan}
@@ -20,7 +20,7 @@ pub record IsWritten (limit : ℕ) (what : Merged) (t : ℕ) (h : History) (p : 
 -- what a plan writes is the sample of a write, where it writes one
 pub written-sample : (plan : Plan) (what : Merged) (limit t : ℕ) (h : History) (p : Point) → PutAnswers what limit t h (Ok plan) → Some p ≡ first_of plan.wrote → IsWritten limit what t h p plan
 written-sample plan (Refuse r) limit t h p a is = absurd a
-written-sample plan Keep limit t h p a is = let none : Some p ≡ None = is ∙ ap (λ (x : Plan). first_of x.wrote) a in absurd (cc none)
+written-sample plan KeepOld limit t h p a is = let none : Some p ≡ None = is ∙ ap (λ (x : Plan). first_of x.wrote) a in absurd (cc none)
 written-sample plan (To v) limit t h p a is = record {
   value = v;
   sets = refl;
@@ -46,7 +46,7 @@ unwritten-sample OutOfRange what limit t h p a is = absurd (cc is)
 unwritten-sample Full what limit t h p a is = absurd (cc is)
 unwritten-sample (Memory e) what limit t h p a is = absurd (cc is)
 unwritten-sample (Unwritten q) (Refuse r) limit t h p a is = let none : None ≡ Some r = a in absurd (cc none)
-unwritten-sample (Unwritten q) Keep limit t h p a is = absurd a
+unwritten-sample (Unwritten q) KeepOld limit t h p a is = absurd a
 unwritten-sample (Unwritten q) (To v) limit t h p a is = record {
   value = v;
   sets = refl;

@@ -1,19 +1,19 @@
 -- Worked examples: the cost of selections.
 use Rattle.std.specs.Prelude.{◌≡◌, refl, List, [], ◌∷◌, None, codes}
 use Rattle.ts_spec.specs.declared.series.Options.{Options}
-use Rattle.ts_spec.specs.Filter.{Filter, Among, NotAmong, Present}
+use Rattle.ts_spec.specs.Filter.{Filter, OneOf, NoneOf, Present}
 use Rattle.ts_spec.specs.Key.{Key}
 use Rattle.ts_spec.specs.Keyed.{none, with_key}
-use Rattle.ts_spec.specs.Kept.{Kept, Keeping}
-use Rattle.ts_spec.specs.KeptQuestions.{kept_selection}
+use Rattle.ts_spec.specs.StoredSeries.{StoredSeries, StoredKeys}
+use Rattle.ts_spec.specs.StoredQueries.{stored_selection}
 use Rattle.ts_spec.specs.Limits.{usual}
 use Rattle.ts_spec.specs.State.{Label}
 use Rattle.ts_db.specs.Bounds.{candidates, selection_steps}
-use Rattle.ts_db.specs.Held.{Stock}
+use Rattle.ts_db.specs.DbState.{DbView}
 
 module _ (options : Options) where
   -- a key without samples that has these labels
-  abbrev with_labels : List Label → Kept
+  abbrev with_labels : List Label → StoredSeries
   with_labels labels = record { options = options; labels = labels; list = []; high = None; born = 0; rules = []; source = None }
 
   abbrev kind : Label
@@ -22,12 +22,12 @@ module _ (options : Options) where
   abbrev area : Label
   area = record { name = codes "area"; value = codes "x" }
 
-  abbrev others : List Key → Keeping
+  abbrev others : List Key → StoredKeys
   others [] = with_key (codes "k0") (with_labels (kind ∷ area ∷ [])) none
   others (k ∷ ks) = with_key k (with_labels (kind ∷ [])) (others ks)
 
   -- ten keys of one kind, of which the first has an area
-  abbrev ten : Stock
+  abbrev ten : DbView
   ten = record {
     limits = usual;
     keys = others (codes "k1" ∷ codes "k2" ∷ codes "k3" ∷ codes "k4" ∷ codes "k5" ∷ codes "k6" ∷ codes "k7" ∷ codes "k8" ∷ codes "k9" ∷ []);
@@ -38,13 +38,13 @@ module _ (options : Options) where
   }
 
   abbrev of_kind : Filter
-  of_kind = Among (codes "kind") (codes "s" ∷ [])
+  of_kind = OneOf (codes "kind") (codes "s" ∷ [])
 
   abbrev of_area : Filter
-  of_area = Among (codes "area") (codes "x" ∷ [])
+  of_area = OneOf (codes "area") (codes "x" ∷ [])
 
   -- the narrower of two filters bounds the steps of both
-  pub narrower_selected : kept_selection ten.keys (of_kind ∷ of_area ∷ []) ≡ codes "k0" ∷ []
+  pub narrower_selected : stored_selection ten.keys (of_kind ∷ of_area ∷ []) ≡ codes "k0" ∷ []
   narrower_selected = refl
 
   pub narrower_steps : selection_steps ten (of_kind ∷ of_area ∷ []) ≡ 2
@@ -54,16 +54,16 @@ module _ (options : Options) where
   wider_steps = refl
 
   -- values are added up, also where one is there twice
-  pub values_added : candidates ten (Among (codes "kind") (codes "s" ∷ codes "t" ∷ codes "s" ∷ [])) ≡ 20
+  pub values_added : candidates ten (OneOf (codes "kind") (codes "s" ∷ codes "t" ∷ codes "s" ∷ [])) ≡ 20
   values_added = refl
 
   -- there are no more of them than keys
-  pub keys_at_most : selection_steps ten (Among (codes "kind") (codes "s" ∷ codes "s" ∷ []) ∷ []) ≡ 10
+  pub keys_at_most : selection_steps ten (OneOf (codes "kind") (codes "s" ∷ codes "s" ∷ []) ∷ []) ≡ 10
   keys_at_most = refl
 
   -- a filter that asks for no value has no candidates of its own
   pub no_value : selection_steps ten (Present (codes "area") ∷ of_area ∷ []) ≡ 2
   no_value = refl
 
-  pub no_positive : selection_steps ten (NotAmong (codes "area") (codes "x" ∷ []) ∷ []) ≡ 10
+  pub no_positive : selection_steps ten (NoneOf (codes "area") (codes "x" ∷ []) ∷ []) ≡ 10
   no_positive = refl

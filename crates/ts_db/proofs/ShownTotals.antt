@@ -7,7 +7,7 @@ use Rattle.ts_spec.specs.Keyed.{Entry, is_below, is_sorted, get_in, each_in}
 use Rattle.ts_spec.specs.State.{Record, State, link_to}
 use Rattle.ts_spec.specs.Rules.{shown}
 use Rattle.ts_spec.specs.Totals.{shown_in, total_shown}
-use Rattle.ts_spec.specs.Kept.{kept, kept_record}
+use Rattle.ts_spec.specs.StoredSeries.{kept, stored_record}
 use Rattle.ts_spec.proofs.Keys.{same-true, same-refl, before-irrefl}
 use Rattle.ts_spec.proofs.Keeps.{shown-there}
 use Rattle.ts_db.specs.Totals.{samples_in, total_of}
@@ -35,11 +35,11 @@ found (e ∷ es) h =
     let parts : (is_below e.key es ≡ true) × (is_sorted es ≡ true) = and_parts (is_below e.key es) (is_sorted es) h in
     (ap (λ (b : Bool). cond b (Some e.value) (get_in e.key es)) (same-refl e.key), found-later e es es parts.0 (found es parts.1))
 
-kept-in : (m : State) (es : List (Entry Record)) → AreFound m.entries es → samples_in (each_in (λ k d. kept_record (link_to m k) d) es) ≡ shown_in m es
+kept-in : (m : State) (es : List (Entry Record)) → AreFound m.entries es → samples_in (each_in (λ k d. stored_record (link_to m k) d) es) ≡ shown_in m es
 kept-in m [] f = refl
 kept-in m (e ∷ es) f =
-    let here : length (kept_record (link_to m e.key) e.value).list ≡ length (shown m e.key) = ap length (sym (shown-there m e.key e.value f.0)) in
-    let rest : samples_in (each_in (λ k d. kept_record (link_to m k) d) es) ≡ shown_in m es = kept-in m es f.1 in
+    let here : length (stored_record (link_to m e.key) e.value).list ≡ length (shown m e.key) = ap length (sym (shown-there m e.key e.value f.0)) in
+    let rest : samples_in (each_in (λ k d. stored_record (link_to m k) d) es) ≡ shown_in m es = kept-in m es f.1 in
     λ i. here i + rest i
 
 pub total-kept : (m : State) → total_of (kept m) ≡ total_shown m

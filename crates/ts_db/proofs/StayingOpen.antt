@@ -5,26 +5,26 @@ use Rattle.ts_spec.specs.Sample.{Point, put}
 use Rattle.ts_spec.specs.Bucket.{start}
 use Rattle.ts_spec.specs.Aggregate.{push, nothing}
 use Rattle.ts_spec.specs.Rules.{raised, is_append}
-use Rattle.ts_spec.specs.Kept.{KeptRule}
-use Rattle.ts_spec.specs.Mending.{by_bucket, bucket_row, closing_row, counted_anew, written_rule, high_with, kept_with}
+use Rattle.ts_spec.specs.StoredSeries.{StoredRule}
+use Rattle.ts_spec.specs.StoredUpdates.{by_bucket, bucket_row, closing_row, recounted_bucket, written_rule, high_after_rows, stored_with}
 use Rattle.ts_sample.specs.declared.sample.Id.{Id}
 use Rattle.ts_bucket.specs.Grid.{IsGrid}
 use Rattle.ts_series.specs.History.{History, list_of}
 use Rattle.ts_series.specs.Plan.{Plan, after}
 use Rattle.ts_series.specs.Put.{Writes, sample_of}
 use Rattle.ts_rules.specs.declared.rule.Rule.{Rule}
-use Rattle.ts_rules.specs.Rules.{kept_with_dest}
-use Rattle.ts_rules.specs.Plans.{mended_list, IsMendedBy}
+use Rattle.ts_rules.specs.Rules.{stored_rule_for}
+use Rattle.ts_rules.specs.Plans.{list_after_update, IsUpdatedBy}
 use Rattle.ts_rules.proofs.Mended.{unmended}
 use Rattle.ts_db.specs.declared.planning.DestinationPlan.{DestinationPlan}
 use Rattle.ts_db.specs.declared.node.Node.{Node}
 use Rattle.ts_db.specs.declared.store.Store.{Store}
-use Rattle.ts_db.specs.declared.planning.Work.TheVariants.{Write}
-use Rattle.ts_db.specs.Feeding.{Rows, Gone}
-use Rattle.ts_db.specs.Growing.{grown, AreOpenAt, StaysOpen, HaveRoom, kept_grown}
-use Rattle.ts_db.specs.Planning.{changed_by, gone_by, rows_by_work, AllTake, kept_rule_in, AreFedBy, AreChanged, first_full, AreDistinct, IsFed}
-use Rattle.ts_db.specs.Store.{kept_series, rules_by, key_in, kept_named, AreLive, HaveGrids, IsNode, IsInOrder}
-use Rattle.ts_db.proofs.Feeds.{Feeding, fed-none, fed-all}
+use Rattle.ts_db.specs.declared.planning.SourceChange.TheVariants.{Write}
+use Rattle.ts_db.specs.DestinationUpdates.{Rows, RemovedTimes}
+use Rattle.ts_db.specs.OpenAppend.{counted_once_more, AreOpenAt, StaysOpen, CanCountOneMore, stored_open_append}
+use Rattle.ts_db.specs.Planning.{changed_by, gone_by, rows_by_change, AllHaveCountCapacity, stored_rule_in, AreDestinationsUpdatedBy, AreChanged, first_full, AreDistinct, AreDestinationsUpdated}
+use Rattle.ts_db.specs.Store.{stored_series, rules_by, key_in, stored_named, AreLive, HaveGrids, IsNode, IsInOrder}
+use Rattle.ts_db.proofs.Feeds.{Feeding, update_dest-none, update_dest-all}
 use Rattle.ts_db.proofs.Plans.{fits-one, full-past}
 
 -- ---- a rule in whose open bucket the sample lies
@@ -40,7 +40,7 @@ module _ (b : ℕ) where
 
 module _ (h : History) (p : Point) (append : is_append p.time h.high ≡ true) where
   -- it counts the sample
-  grows : (q : KeptRule) → q.current ≡ Some (start q.grid p.time) → grown p q ≡ changed_by (Write p) h q
+  grows : (q : StoredRule) → q.current ≡ Some (start q.grid p.time) → counted_once_more p q ≡ changed_by (Write p) h q
   grows q is =
       let b : ℕ = start q.grid p.time in
       let current : raised b q.current ≡ q.current = ap (raised b) is ∙ raised-here b ∙ sym is in
@@ -49,24 +49,24 @@ module _ (h : History) (p : Point) (append : is_append p.time h.high ≡ true) w
       sym (ap (λ a. written_rule a p (put p (list_of h)) q) append ∙ (λ i. record q { current = current i; running = running i }))
 
   -- and tells no row
-  tells-nothing : (q : KeptRule) (born : ℕ) → q.current ≡ Some (start q.grid p.time) → rows_by_work (Write p) h born q ≡ []
+  tells-nothing : (q : StoredRule) (born : ℕ) → q.current ≡ Some (start q.grid p.time) → rows_by_change (Write p) h born q ≡ []
   tells-nothing q born is =
       let b : ℕ = start q.grid p.time in
-      let own : List Point = bucket_row q.agg born b (counted_anew q b (put p (list_of h))) in
+      let own : List Point = bucket_row q.agg born b (recounted_bucket q b (put p (list_of h))) in
       ap (λ c. by_bucket b c own [] (closing_row born q q.current)) is ∙ by-here b own [] (closing_row born q q.current)
 
-  grown-rules : (names : Id → _) (rs : List Rule) → AreOpenAt p rs → map (grown p) (rules_by names rs) ≡ map (changed_by (Write p) h) (rules_by names rs)
-  grown-rules names [] o = refl
-  grown-rules names (r ∷ rs) o =
-      ap (λ (q : KeptRule). q ∷ map (grown p) (rules_by names rs)) (grows (kept_with_dest (names r.dest) r) o.0)
-      ∙ ap (λ (qs : List KeptRule). changed_by (Write p) h (kept_with_dest (names r.dest) r) ∷ qs) (grown-rules names rs o.1)
+  counted_once_more-rules : (names : Id → _) (rs : List Rule) → AreOpenAt p rs → map (counted_once_more p) (rules_by names rs) ≡ map (changed_by (Write p) h) (rules_by names rs)
+  counted_once_more-rules names [] o = refl
+  counted_once_more-rules names (r ∷ rs) o =
+      ap (λ (q : StoredRule). q ∷ map (counted_once_more p) (rules_by names rs)) (grows (stored_rule_for (names r.dest) r) o.0)
+      ∙ ap (λ (qs : List StoredRule). changed_by (Write p) h (stored_rule_for (names r.dest) r) ∷ qs) (counted_once_more-rules names rs o.1)
 
 -- the stored data of the node is that after the write
-pub grown-after : (s : Store) (n : Node) (plan : Plan) (t : ℕ) (v : ℤ) → Writes (sample_of t v n.series) plan → StaysOpen n.series (sample_of t v n.series) n.rules.items
-    → kept_grown s.nodes plan (sample_of t v n.series) n ≡ kept_with t v (kept_named (key_in s.nodes) n)
-grown-after s n plan t v w o =
-    let same = grown-rules n.series (sample_of t v n.series) o.append (key_in s.nodes) n.rules.items o.at in
-    λ i. record (kept_series n.labels (after (record { cut = w.cut i; removed = 0; encoding = plan.encoding; wrote = w.wrote i; options = w.options i; change = plan.change; room = None }) n.series)) { rules = same i; source = option_map (key_in s.nodes) n.source }
+pub counted_once_more-after : (s : Store) (n : Node) (plan : Plan) (t : ℕ) (v : ℤ) → Writes (sample_of t v n.series) plan → StaysOpen n.series (sample_of t v n.series) n.rules.items
+    → stored_open_append s.nodes plan (sample_of t v n.series) n ≡ stored_with t v (stored_named (key_in s.nodes) n)
+counted_once_more-after s n plan t v w o =
+    let same = counted_once_more-rules n.series (sample_of t v n.series) o.append (key_in s.nodes) n.rules.items o.at in
+    λ i. record (stored_series n.labels (after (record { cut = w.cut i; removed = 0; encoding = plan.encoding; wrote = w.wrote i; options = w.options i; change = plan.change; room = None }) n.series)) { rules = same i; source = option_map (key_in s.nodes) n.source }
 
 -- ---- plans that leave destinations as they are
 
@@ -75,35 +75,35 @@ no_plans rs = map (λ r. record { dest = r.dest; change = None }) rs
 
 module _ (s : Store) (store : IsInOrder s) (h : History) (p : Point) (append : is_append p.time h.high ≡ true) where
   abbrev rows : Rows
-  rows = rows_by_work (Write p) h
+  rows = rows_by_change (Write p) h
 
-  abbrev gone : Gone
+  abbrev gone : RemovedTimes
   gone = gone_by (Write p) h
 
   left-alone : (r : Rule) (n : Node) → IsNode s.limits n → r.current ≡ Some (start r.grid p.time)
-      → IsMendedBy s.limits.samples (gone (kept_rule_in s.nodes r)) (rows n.series.born (kept_rule_in s.nodes r)) n.series None
+      → IsUpdatedBy s.limits.samples (gone (stored_rule_in s.nodes r)) (rows n.series.born (stored_rule_in s.nodes r)) n.series None
   left-alone r n fits is =
-      let none : rows n.series.born (kept_rule_in s.nodes r) ≡ [] = tells-nothing h p append (kept_rule_in s.nodes r) n.series.born is in
-      let same : mended_list (λ b. false) (rows n.series.born (kept_rule_in s.nodes r)) n.series ≡ list_of n.series =
-      ap (λ (ps : List Point). mended_list (λ b. false) ps n.series) none ∙ unmended (λ b. false) n.series fits.kept (λ t. refl) in
+      let none : rows n.series.born (stored_rule_in s.nodes r) ≡ [] = tells-nothing h p append (stored_rule_in s.nodes r) n.series.born is in
+      let same : list_after_update (λ b. false) (rows n.series.born (stored_rule_in s.nodes r)) n.series ≡ list_of n.series =
+      ap (λ (ps : List Point). list_after_update (λ b. false) ps n.series) none ∙ unmended (λ b. false) n.series fits.kept (λ t. refl) in
       record {
         made_for = tt;
         list = sym same;
-        high = sym (ap (λ (ps : List Point). high_with ps n.series.high) none);
+        high = sym (ap (λ (ps : List Point). high_after_rows ps n.series.high) none);
         options = refl;
         fits = subst (λ (ps : List Point). length ps ≤ s.limits.samples) (sym same) fits.within;
       }
 
-  pub none-fed : (rs : List Rule) → AreOpenAt p rs → AreLive s.nodes rs → AreFedBy s.limits.samples s.nodes rows gone rs (no_plans rs)
-  none-fed [] o live = tt
-  none-fed (r ∷ rs) o live = (
+  pub none-update_dest : (rs : List Rule) → AreOpenAt p rs → AreLive s.nodes rs → AreDestinationsUpdatedBy s.limits.samples s.nodes rows gone rs (no_plans rs)
+  none-update_dest [] o live = tt
+  none-update_dest (r ∷ rs) o live = (
     record {
       dest = refl;
       node = live.0.node;
       there = live.0.there;
-      mended = left-alone r live.0.node (store.each r.dest.0 live.0.node live.0.there) o.0;
+      updated_list = left-alone r live.0.node (store.each r.dest.0 live.0.node live.0.there) o.0;
     },
-    none-fed rs o.1 live.1,
+    none-update_dest rs o.1 live.1,
   )
 
   pub none-full : (rs : List Rule) → AreOpenAt p rs → AreLive s.nodes rs → first_full s.limits.samples s.nodes rows gone rs ≡ None
@@ -114,24 +114,24 @@ module _ (s : Store) (store : IsInOrder s) (h : History) (p : Point) (append : i
       ∙ none-full rs o.1 live.1
 
 -- destinations without plans are updated
-all-none : (init now : Store) (store : IsInOrder now) (rows : Rows) (gone : Gone) (rs xs : List Rule) → Feeding init now rows gone rs (no_plans xs) → IsFed init rows gone rs now
-all-none init now store rows gone rs [] f = fed-all init now rows gone rs f
+all-none : (init now : Store) (store : IsInOrder now) (rows : Rows) (gone : RemovedTimes) (rs xs : List Rule) → Feeding init now rows gone rs (no_plans xs) → AreDestinationsUpdated init rows gone rs now
+all-none init now store rows gone rs [] f = update_dest-all init now rows gone rs f
 all-none init now store rows gone rs (x ∷ xs) f =
-    all-none init now store rows gone rs xs (fed-none init now store rows gone rs (record { dest = x.dest; change = None }) (no_plans xs) f refl)
+    all-none init now store rows gone rs xs (update_dest-none init now store rows gone rs (record { dest = x.dest; change = None }) (no_plans xs) f refl)
 
-pub fed-nothing : (now : Store) → IsInOrder now → (rows : Rows) (gone : Gone) (rs xs : List Rule) → AreFedBy now.limits.samples now.nodes rows gone rs (no_plans xs) → AreDistinct rs → IsFed now rows gone rs now
-fed-nothing now store rows gone rs xs fed distinct = all-none now now store rows gone rs xs (record { rest = rs; plans = fed; distinct = distinct; result = refl })
+pub update_dest-nothing : (now : Store) → IsInOrder now → (rows : Rows) (gone : RemovedTimes) (rs xs : List Rule) → AreDestinationsUpdatedBy now.limits.samples now.nodes rows gone rs (no_plans xs) → AreDistinct rs → AreDestinationsUpdated now rows gone rs now
+update_dest-nothing now store rows gone rs xs update_dest distinct = all-none now now store rows gone rs xs (record { rest = rs; plans = update_dest; distinct = distinct; result = refl })
 
 -- ---- rules with one more sample
 
-pub grown-grids : (p : Point) (rs xs : List Rule) → AreChanged (grown p) rs xs → HaveGrids rs → HaveGrids xs
-grown-grids p [] [] c g = tt
-grown-grids p [] (x ∷ xs) c g = absurd c
-grown-grids p (r ∷ rs) [] c g = absurd c
-grown-grids p (r ∷ rs) (x ∷ xs) c g = (subst IsGrid (sym (ap (λ (q : KeptRule). q.grid) (c.0.kept []))) g.0, grown-grids p rs xs c.1 g.1)
+pub counted_once_more-grids : (p : Point) (rs xs : List Rule) → AreChanged (counted_once_more p) rs xs → HaveGrids rs → HaveGrids xs
+counted_once_more-grids p [] [] c g = tt
+counted_once_more-grids p [] (x ∷ xs) c g = absurd c
+counted_once_more-grids p (r ∷ rs) [] c g = absurd c
+counted_once_more-grids p (r ∷ rs) (x ∷ xs) c g = (subst IsGrid (sym (ap (λ (q : StoredRule). q.grid) (c.0.kept []))) g.0, counted_once_more-grids p rs xs c.1 g.1)
 
 -- rules that take an appended sample have capacity for it
-pub open-room : (h : History) (p : Point) (rs : List Rule) → StaysOpen h p rs → AllTake (Write p) h rs → HaveRoom rs
+pub open-room : (h : History) (p : Point) (rs : List Rule) → StaysOpen h p rs → AllHaveCountCapacity (Write p) h rs → CanCountOneMore rs
 open-room h p [] o t = tt
 open-room h p (r ∷ rs) o t = (t.0 o.append o.at.0, open-room h p rs (record { append = o.append; at = o.at.1 }) t.1)
 

@@ -14,8 +14,8 @@ use Rattle.std.proofs.lemmas.Map.Keys.{IsDistinct-cons}
 use Rattle.ts_spec.specs.Key.{Key}
 use Rattle.ts_spec.specs.State.{Label}
 use Rattle.ts_sample.specs.declared.sample.Id.{Id}
-use Rattle.ts_index.specs.Index.{Labelled, labels_of, numbers_where}
-use Rattle.ts_db.specs.Store.{Numbers, number_of}
+use Rattle.ts_index.specs.Index.{Labelled, labels_of, ids_where}
+use Rattle.ts_db.specs.Store.{Numbers, id_for_key}
 use Rattle.ts_db.proofs.Permuted.{at, at-same, at-self, same-numbers}
 
 module _ (labels : ℕ → Option (List Label)) (name : Id → Key) where
@@ -35,8 +35,8 @@ module _ (labels : ℕ → Option (List Label)) (name : Id → Key) where
     pub sorted : IsStrictlySortedBy (slice_cmp nat_cmp) (keys_of es)
     pub once : IsDistinct at (keys_of index)
     pub known : AllByRecursion IsKnown es
-    pub found : AllByRecursion (λ e. number_of (name e.1) es ≡ Some e.1) es
-    pub owned : (i : ℕ) (ls : List Label) → labels i ≡ Some ls → (k : Key) × (number_of k es ≡ Some (record { 0 = i }))
+    pub found : AllByRecursion (λ e. id_for_key (name e.1) es ≡ Some e.1) es
+    pub owned : (i : ℕ) (ls : List Label) → labels i ≡ Some ls → (k : Key) × (id_for_key k es ≡ Some (record { 0 = i }))
     pub indexed : (i : ℕ) → labels_of i index ≡ labels i
 
   missing : (i : ℕ) (es : Numbers) → labels i ≡ None → AllByRecursion IsKnown es → labels_of i (tagged es) ≡ None
@@ -46,7 +46,7 @@ module _ (labels : ℕ → Option (List Label)) (name : Id → Key) where
       (λ n. lookup_tail (at i) (e.1.0, unwrap_or (labels e.1.0) []) (tagged es) n ∙ missing i es none known.1)
       (cases_Bool (at i e.1.0))
 
-  there : (i : ℕ) (ls : List Label) (k : Key) (es : Numbers) → labels i ≡ Some ls → number_of k es ≡ Some (record { 0 = i }) → labels_of i (tagged es) ≡ Some ls
+  there : (i : ℕ) (ls : List Label) (k : Key) (es : Numbers) → labels i ≡ Some ls → id_for_key k es ≡ Some (record { 0 = i }) → labels_of i (tagged es) ≡ Some ls
   there i ls k [] has found = absurd (cc found)
   there i ls k (e ∷ es) has found = ⊎_elim
       (λ y. lookup_head (at i) (e.1.0, unwrap_or (labels e.1.0) []) (tagged es) y
@@ -88,5 +88,5 @@ module _ (labels : ℕ → Option (List Label)) (name : Id → Key) where
         go (Some ls) e = e ∙ sym (there i ls (is.owned i ls e).0 es e (is.owned i ls e).1)
 
     -- the ids that the index tells of a test are those of the keys, in some order
-    pub told : (test : List Label → Bool) → IsPermutation (numbers_where test index) (numbers_where test (tagged es))
+    pub told : (test : List Label → Bool) → IsPermutation (ids_where test index) (ids_where test (tagged es))
     told test = same-numbers test index (tagged es) is.once (distinct es is.sorted is.known) same-labels

@@ -8,8 +8,8 @@ use Rattle.ts_spec.specs.Response.{Response, Done, Count}
 use Rattle.ts_spec.specs.Key.{Key}
 use Rattle.ts_spec.specs.Keyed.{with_key}
 use Rattle.ts_spec.specs.State.{Label}
-use Rattle.ts_spec.specs.Kept.{Keeping}
-use Rattle.ts_spec.specs.KeptStep.{KeptOutcome, kept_refused}
+use Rattle.ts_spec.specs.StoredSeries.{StoredKeys}
+use Rattle.ts_spec.specs.StoredStep.{StoredOutcome, stored_refused}
 use Rattle.ts_sample.specs.declared.sample.Id.{Id}
 use Rattle.ts_series.specs.History.{list_of}
 use Rattle.ts_series.specs.Plan.{Plan, after, IsFor}
@@ -18,19 +18,19 @@ use Rattle.ts_db.specs.declared.fault.DbFault.{DbFault}
 use Rattle.ts_db.specs.declared.node.Node.{Node}
 use Rattle.ts_db.specs.declared.store.Store.{Store}
 use Rattle.ts_db.specs.Faults.{refusal_of}
-use Rattle.ts_db.specs.Held.{Stock, YieldsToMemory}
-use Rattle.ts_db.specs.Store.{key_in, kept_node, stock_of, contents_of, AreLive, HaveGrids, Holds}
+use Rattle.ts_db.specs.DbState.{DbView, AllowsOutOfMemory}
+use Rattle.ts_db.specs.Store.{key_in, stored_node, db_view_of, contents_of, AreLive, HaveGrids, Holds}
 
 -- an error is the step's refusal; out of memory is allowed only if the step refuses nothing
-abbrev pub IsKeptAnswer : Option Refusal → Keeping → KeptOutcome → Type 0
-IsKeptAnswer None m step = YieldsToMemory step.response
-IsKeptAnswer (Some refusal) m step = step ≡ kept_refused m refusal
+abbrev pub IsStoredAnswer : Option Refusal → StoredKeys → StoredOutcome → Type 0
+IsStoredAnswer None m step = AllowsOutOfMemory step.response
+IsStoredAnswer (Some refusal) m step = step ≡ stored_refused m refusal
 
 -- A success has the response and the stored data of the step. An error is the step's refusal, or out of memory if the
 -- step refuses nothing; then nothing has changed.
-abbrev pub KeptAnswers : {T : Type 0} → (T → Response) → (old : Stock) → KeptOutcome → Result T DbFault → (new : Stock) → Type 0
-KeptAnswers response old step (Ok x) new = (step ≡ record { keys = new.keys; response = response x }) × (new.limits ≡ old.limits)
-KeptAnswers response old step (Err fault) new = IsKeptAnswer (refusal_of old.ids fault) old.keys step × (new ≡ old)
+abbrev pub StoredAnswers : {T : Type 0} → (T → Response) → (old : DbView) → StoredOutcome → Result T DbFault → (new : DbView) → Type 0
+StoredAnswers response old step (Ok x) new = (step ≡ record { keys = new.keys; response = response x }) × (new.limits ≡ old.limits)
+StoredAnswers response old step (Err fault) new = IsStoredAnswer (refusal_of old.ids fault) old.keys step × (new ≡ old)
 
 -- a node after a plan for its series, with the labels and the rules that are given
 abbrev pub node_after : Plan → Option (List Label) → Option (Vec Rule Global) → Node → Node
@@ -50,7 +50,7 @@ pub record IsReady (s : Store) (id : Id) (plan : Plan) (labels : Option (List La
 -- the key of `id` stores the node after the plan; all else is unchanged
 abbrev pub IsApplied : (old : Store) → Id → Plan → Option (List Label) → Option (Vec Rule Global) → (new : Store) → Type 0
 IsApplied old id plan labels rules new =
-    (key : Key) (n : Node) → Holds old key id n → contents_of new ≡ record (contents_of old) { keys = with_key key (kept_node old.nodes (node_after plan labels rules n)) (stock_of old).keys }
+    (key : Key) (n : Node) → Holds old key id n → contents_of new ≡ record (contents_of old) { keys = with_key key (stored_node old.nodes (node_after plan labels rules n)) (db_view_of old).keys }
 
 -- other nodes and all keys are unchanged
 pub record IsElsewhere (old new : Store) (id : Id) : Type 0 where
@@ -60,8 +60,8 @@ pub record IsElsewhere (old new : Store) (id : Id) : Type 0 where
   pub names : (i : Id) → key_in new.nodes i ≡ key_in old.nodes i
 
 -- an operation that returns nothing, and one that returns a time or a count
-abbrev pub KeptDone : (old : Stock) → KeptOutcome → Result (Unit {0}) DbFault → (new : Stock) → Type 0
-KeptDone old step result new = KeptAnswers (λ x. Done) old step result new
+abbrev pub StoredDone : (old : DbView) → StoredOutcome → Result (Unit {0}) DbFault → (new : DbView) → Type 0
+StoredDone old step result new = StoredAnswers (λ x. Done) old step result new
 
-abbrev pub KeptNumber : (old : Stock) → KeptOutcome → Result ℕ DbFault → (new : Stock) → Type 0
-KeptNumber old step result new = KeptAnswers (λ t. Count t) old step result new
+abbrev pub StoredCount : (old : DbView) → StoredOutcome → Result ℕ DbFault → (new : DbView) → Type 0
+StoredCount old step result new = StoredAnswers (λ t. Count t) old step result new

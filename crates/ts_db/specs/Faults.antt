@@ -14,8 +14,8 @@ key_among number [] = []
 key_among number (e ∷ es) = if e.value.0 == number then e.key else key_among number es
 
 -- the key with this id
-abbrev pub key_with : Keyed Id → Id → Key
-key_with ids id = key_among id.0 ids.entries
+abbrev pub key_of_id : Keyed Id → Id → Key
+key_of_id ids id = key_among id.0 ids.entries
 
 -- the refusal for too many samples, in the written series or in a destination
 abbrev pub full_refusal : (written : Bool) → Key → Refusal
@@ -32,7 +32,7 @@ refusal_of ids TooOld = Some refusal.TooOld
 refusal_of ids Duplicate = Some refusal.Duplicate
 refusal_of ids OutOfRange = Some refusal.OutOfRange
 refusal_of ids BeforeLast = Some refusal.BeforeLast
-refusal_of ids (SamplesFull id written) = Some (full_refusal written (key_with ids id))
+refusal_of ids (SamplesFull id written) = Some (full_refusal written (key_of_id ids id))
 refusal_of ids DeleteBeyondRetention = Some refusal.DeleteBeyondRetention
 refusal_of ids SameKey = Some refusal.SameKey
 refusal_of ids SourceIsDest = Some refusal.SourceIsDest

@@ -8,60 +8,60 @@ use Rattle.ts_spec.specs.Aggregate.{nothing}
 use Rattle.ts_spec.specs.Key.{Key, same}
 use Rattle.ts_spec.specs.Keyed.{Keyed, get, without_key}
 use Rattle.ts_spec.specs.Refusal.{Refusal, SourceIsDest, DestIsSource, DestHasSource, RulesSpent, RulesFull}
-use Rattle.ts_spec.specs.Kept.{KeptRule, Kept, Keeping}
-use Rattle.ts_spec.specs.Mending.{kept_rule_to}
-use Rattle.ts_spec.specs.Keeping.{keep_changed, keep_dropped}
+use Rattle.ts_spec.specs.StoredSeries.{StoredRule, StoredSeries, StoredKeys}
+use Rattle.ts_spec.specs.StoredUpdates.{stored_rule_to}
+use Rattle.ts_spec.specs.StoredKeys.{keys_changed, keys_dropped}
 use Rattle.ts_sample.specs.declared.sample.Id.{Id}
 use Rattle.ts_rules.specs.declared.rule.Rule.{Rule}
-use Rattle.ts_rules.specs.Rules.{kept_with_dest}
+use Rattle.ts_rules.specs.Rules.{stored_rule_for}
 use Rattle.ts_db.specs.declared.node.Node.{Node}
 use Rattle.ts_db.specs.declared.store.Store.{Store}
 use Rattle.ts_db.specs.declared.fault.DbFault.{DbFault}
 use Rattle.ts_db.specs.Faults.{refusal_of}
-use Rattle.ts_db.specs.Store.{key_in, stock_of, contents_of}
+use Rattle.ts_db.specs.Store.{key_in, db_view_of, contents_of}
 
 -- ---- in stored data
 
 -- the data stored for the key of `id` changes by f; all else is unchanged
-abbrev pub IsKeptBy : (old : Store) → Id → (Kept → Kept) → (new : Store) → Type 0
-IsKeptBy old id f new = contents_of new ≡ record (contents_of old) { keys = keep_changed (key_in old.nodes id) f (stock_of old).keys }
+abbrev pub IsStoredChange : (old : Store) → Id → (StoredSeries → StoredSeries) → (new : Store) → Type 0
+IsStoredChange old id f new = contents_of new ≡ record (contents_of old) { keys = keys_changed (key_in old.nodes id) f (db_view_of old).keys }
 
 -- a key without its rules to `dest`
-abbrev pub kept_unruled : Key → Kept → Kept
-kept_unruled dest d = record d { rules = filter (λ q. not (same q.dest dest)) d.rules }
+abbrev pub stored_without_rule_to : Key → StoredSeries → StoredSeries
+stored_without_rule_to dest d = record d { rules = filter (λ q. not (same q.dest dest)) d.rules }
 
 -- a key without rules
-abbrev pub kept_ruleless : Kept → Kept
-kept_ruleless d = record d { rules = [] }
+abbrev pub stored_ruleless : StoredSeries → StoredSeries
+stored_ruleless d = record d { rules = [] }
 
 -- a key with this rule source, or without one
-abbrev pub kept_sourced : Option Key → Kept → Kept
-kept_sourced source d = record d { source = source }
+abbrev pub stored_with_source : Option Key → StoredSeries → StoredSeries
+stored_with_source source d = record d { source = source }
 
 -- the stored data after the rule source of each destination is cleared
-abbrev pub keep_freed : List KeptRule → Keeping → Keeping
-keep_freed [] m = m
-keep_freed (q ∷ qs) m = keep_freed qs (keep_changed q.dest (kept_sourced None) m)
+abbrev pub keys_unlinked : List StoredRule → StoredKeys → StoredKeys
+keys_unlinked [] m = m
+keys_unlinked (q ∷ qs) m = keys_unlinked qs (keys_changed q.dest (stored_with_source None) m)
 
 -- the stored data after the rule from this source to a key is deleted, if there is a source
-abbrev pub keep_unled : Option Key → Key → Keeping → Keeping
-keep_unled None key m = m
-keep_unled (Some source) key m = keep_changed source (kept_unruled key) m
+abbrev pub keys_rule_ended : Option Key → Key → StoredKeys → StoredKeys
+keys_rule_ended None key m = m
+keys_rule_ended (Some source) key m = keys_changed source (stored_without_rule_to key) m
 
 -- No rule leads to the key, and it is no rule source.
-pub record IsFreeOf (key : Key) (d : Kept) : Type 0 where
-  pub rules : kept_rule_to key d.rules ≡ None
+pub record IsFreeOf (key : Key) (d : StoredSeries) : Type 0 where
+  pub rules : stored_rule_to key d.rules ≡ None
   pub source : (d.source ≡ Some key) → ⊥
 
 -- the same for each other key
-abbrev pub AreFreeOf : Key → Keeping → Type 0
-AreFreeOf key m = (k : Key) (d : Kept) → get k m ≡ Some d → same key k ≡ false → IsFreeOf key d
+abbrev pub AreFreeOf : Key → StoredKeys → Type 0
+AreFreeOf key m = (k : Key) (d : StoredSeries) → get k m ≡ Some d → same key k ≡ false → IsFreeOf key d
 
 -- all rules from the key and to it are deleted; apart from the key itself nothing else has changed
 pub record IsAlone (old new : Store) (key : Key) : Type 0 where
-  pub keys : without_key key (stock_of new).keys ≡ keep_dropped key (stock_of old).keys
+  pub keys : without_key key (db_view_of new).keys ≡ keys_dropped key (db_view_of old).keys
   pub limits : new.limits ≡ old.limits
-  pub ids : (stock_of new).ids ≡ (stock_of old).ids
+  pub ids : (db_view_of new).ids ≡ (db_view_of old).ids
 
 -- ids and keys are unchanged
 pub record KeepsNames (old new : Store) : Type 0 where
@@ -76,12 +76,12 @@ any_rule [] = false
 any_rule (r ∷ rs) = true
 
 -- whether one of the rules leads to this id
-abbrev pub any_to : ℕ → List Rule → Bool
-any_to i rs = list_any (λ r. r.dest.0 == i) rs
+abbrev pub has_rule_to : ℕ → List Rule → Bool
+has_rule_to i rs = list_any (λ r. r.dest.0 == i) rs
 
 -- the refusal of a rule between these series, if it is not allowed
-abbrev pub barred_by : Limits → (source dest : Node) → Option Refusal
-barred_by limits s d =
+abbrev pub rule_conflict_refusal : Limits → (source dest : Node) → Option Refusal
+rule_conflict_refusal limits s d =
     if is_some s.source then Some SourceIsDest
     else (if any_rule d.rules.items then Some DestIsSource
     else (if is_some d.source then Some DestHasSource
@@ -89,20 +89,20 @@ barred_by limits s d =
     else (if nat_le limits.rules (length s.rules.items) then Some RulesFull else None))))
 
 -- The series may have one more rule in its lifetime.
-pub record IsUnspent (limits : Limits) (n : Node) : Type 0 where
+pub record CanMakeRule (limits : Limits) (n : Node) : Type 0 where
   pub within : n.series.born < limits.born
   pub counts : n.series.born < 2 ^ 32 - 1
 
 -- the error represents the refusal of the rule; without an error the rule is allowed
-abbrev pub IsReason : Limits → (source dest : Node) → Option DbFault → Type 0
-IsReason limits s d None = (barred_by limits s d ≡ None) × IsUnspent limits s
-IsReason limits s d (Some fault) = (ids : Keyed Id) → refusal_of ids fault ≡ barred_by limits s d
+abbrev pub IsRuleConflict : Limits → (source dest : Node) → Option DbFault → Type 0
+IsRuleConflict limits s d None = (rule_conflict_refusal limits s d ≡ None) × CanMakeRule limits s
+IsRuleConflict limits s d (Some fault) = (ids : Keyed Id) → refusal_of ids fault ≡ rule_conflict_refusal limits s d
 
 -- The node has one more rule, without an open bucket, and counts it.
-pub record HasMore (dest : Id) (agg : Aggregator) (grid : Grid) (old new : Node) : Type 0 where
+pub record HasOneMoreRule (dest : Id) (agg : Aggregator) (grid : Grid) (old new : Node) : Type 0 where
   pub rule : Rule
   pub leads : rule.dest ≡ dest
-  pub kept : (k : Key) → kept_with_dest k rule ≡ record { dest = k; agg = agg; grid = grid; made = old.series.born + 1; current = None; running = nothing }
+  pub kept : (k : Key) → stored_rule_for k rule ≡ record { dest = k; agg = agg; grid = grid; made = old.series.born + 1; current = None; running = nothing }
   pub rules : new.rules.items ≡ old.rules.items ++ rule ∷ []
   pub rest : new ≡ record old { series = record old.series { born = old.series.born + 1 }; rules = new.rules }
 

@@ -10,29 +10,29 @@ use Rattle.ts_spec.specs.Sample.{Point, MAX_TIME}
 use Rattle.ts_spec.specs.Key.{Key}
 use Rattle.ts_spec.specs.Keyed.{Keyed, none, get, with_key, without_key, each, count_keys}
 use Rattle.ts_spec.specs.State.{Label}
-use Rattle.ts_spec.specs.Kept.{KeptRule, Kept, Keeping}
-use Rattle.ts_spec.specs.KeptQuestions.{kept_labels_at}
-use Rattle.ts_spec.specs.KeptStep.{list_at}
+use Rattle.ts_spec.specs.StoredSeries.{StoredRule, StoredSeries, StoredKeys}
+use Rattle.ts_spec.specs.StoredQueries.{stored_labels_at}
+use Rattle.ts_spec.specs.StoredStep.{list_at}
 use Rattle.ts_sample.specs.declared.sample.Id.{Id}
 use Rattle.ts_bucket.specs.Grid.{IsGrid}
 use Rattle.ts_series.specs.History.{History, list_of, reach, IsKept}
 use Rattle.ts_rules.specs.declared.rule.Rule.{Rule}
-use Rattle.ts_rules.specs.Rules.{kept_with_dest}
+use Rattle.ts_rules.specs.Rules.{stored_rule_for}
 use Rattle.ts_db.specs.declared.node.Node.{Node}
 use Rattle.ts_db.specs.declared.store.Store.{Store}
-use Rattle.ts_db.specs.Held.{Stock, Leads, reach_at, pieces_at}
+use Rattle.ts_db.specs.DbState.{DbView, RepresentsSome, reach_at, chunk_samples_at}
 
 -- the stored data of a series with these labels, without rules and rule source
-abbrev pub kept_series : List Label → History → Kept
-kept_series labels h = record { options = h.options; labels = labels; list = list_of h; high = h.high; born = h.born; rules = []; source = None }
+abbrev pub stored_series : List Label → History → StoredSeries
+stored_series labels h = record { options = h.options; labels = labels; list = list_of h; high = h.high; born = h.born; rules = []; source = None }
 
 -- the stored data of rules; `names` gives the key of an id
-abbrev pub rules_by : (Id → Key) → List Rule → List KeptRule
-rules_by names rs = map (λ r. kept_with_dest (names r.dest) r) rs
+abbrev pub rules_by : (Id → Key) → List Rule → List StoredRule
+rules_by names rs = map (λ r. stored_rule_for (names r.dest) r) rs
 
 -- the stored data of a node; `names` gives the key of an id
-abbrev pub kept_named : (Id → Key) → Node → Kept
-kept_named names n = record (kept_series n.labels n.series) { rules = rules_by names n.rules.items; source = option_map names n.source }
+abbrev pub stored_named : (Id → Key) → Node → StoredSeries
+stored_named names n = record (stored_series n.labels n.series) { rules = rules_by names n.rules.items; source = option_map names n.source }
 
 -- the nodes by id, and the keys with their ids
 abbrev pub Nodes : Type 0
@@ -51,12 +51,12 @@ abbrev pub key_in : Nodes → Id → Key
 key_in nodes id = key_at (slab.get nodes id.0)
 
 -- the stored data of a node
-abbrev pub kept_node : Nodes → Node → Kept
-kept_node nodes n = kept_named (key_in nodes) n
+abbrev pub stored_node : Nodes → Node → StoredSeries
+stored_node nodes n = stored_named (key_in nodes) n
 
 -- the stored data of an id
-abbrev pub kept_numbered : Nodes → Id → Option Kept
-kept_numbered nodes id = option_map (kept_node nodes) (slab.get nodes id.0)
+abbrev pub stored_at_id : Nodes → Id → Option StoredSeries
+stored_at_id nodes id = option_map (stored_node nodes) (slab.get nodes id.0)
 
 -- the map with this value at the key, or without the key if there is no value
 abbrev pub with_found : {X : Type 0} → Key → Option X → Keyed X → Keyed X
@@ -64,9 +64,9 @@ with_found k None m = without_key k m
 with_found k (Some x) m = with_key k x m
 
 -- the stored data of each key
-abbrev pub collected : Nodes → Numbers → Keeping
-collected nodes [] = none
-collected nodes (e ∷ es) = with_found e.0 (kept_numbered nodes e.1) (collected nodes es)
+abbrev pub stored_by_key : Nodes → Numbers → StoredKeys
+stored_by_key nodes [] = none
+stored_by_key nodes (e ∷ es) = with_found e.0 (stored_at_id nodes e.1) (stored_by_key nodes es)
 
 -- the id of each key
 abbrev pub ids_of : Numbers → Keyed Id
@@ -78,12 +78,12 @@ abbrev pub has_key : Key → Key → Bool
 has_key k = is_at (slice_cmp nat_cmp k)
 
 -- the id of a key
-abbrev pub number_of : Key → Numbers → Option Id
-number_of k es = lookup (has_key k) es
+abbrev pub id_for_key : Key → Numbers → Option Id
+id_for_key k es = lookup (has_key k) es
 
 -- a function of each key's node
-abbrev pub told_of : {X : Type 0} → (Option Node → X) → Nodes → Numbers → Keyed X
-told_of tell nodes es = each (λ key id. tell (slab.get nodes id.0)) (ids_of es)
+abbrev pub of_each_node : {X : Type 0} → (Option Node → X) → Nodes → Numbers → Keyed X
+of_each_node tell nodes es = each (λ key id. tell (slab.get nodes id.0)) (ids_of es)
 
 -- the reach of a series; 0 if there is none
 abbrev pub node_reach : Option Node → ℕ
@@ -101,25 +101,25 @@ node_sizes None = []
 node_sizes (Some n) = n.series.held.limits
 
 -- the view of a store
-abbrev pub stock_of : Store → Stock
-stock_of s = record {
+abbrev pub db_view_of : Store → DbView
+db_view_of s = record {
   limits = s.limits;
-  keys = collected s.nodes s.keys.entries;
+  keys = stored_by_key s.nodes s.keys.entries;
   ids = ids_of s.keys.entries;
-  reaches = told_of node_reach s.nodes s.keys.entries;
-  pieces = told_of node_pieces s.nodes s.keys.entries;
-  sizes = told_of node_sizes s.nodes s.keys.entries;
+  reaches = of_each_node node_reach s.nodes s.keys.entries;
+  pieces = of_each_node node_pieces s.nodes s.keys.entries;
+  sizes = of_each_node node_sizes s.nodes s.keys.entries;
 }
 
 -- what a store holds, apart from the layout of its chunks
 pub record Contents : Type 0 where
   pub limits : Limits
-  pub keys : Keeping
+  pub keys : StoredKeys
   pub ids : Keyed Id
 
 -- what this store holds, apart from the layout of its chunks
 abbrev pub contents_of : Store → Contents
-contents_of s = record { limits = s.limits; keys = collected s.nodes s.keys.entries; ids = ids_of s.keys.entries }
+contents_of s = record { limits = s.limits; keys = stored_by_key s.nodes s.keys.entries; ids = ids_of s.keys.entries }
 
 -- the id has a node
 pub record HasNode (nodes : Nodes) (id : Id) : Type 0 where
@@ -157,12 +157,12 @@ pub record IsNode (limits : Limits) (n : Node) : Type 0 where
 -- The invariant of a store: keys and nodes correspond one to one, links lead to existing nodes, each node is well
 -- formed, and the number of keys is within its limit.
 pub record IsStore (limits : Limits) (nodes : Nodes) (es : Numbers) : Type 0 where
-  pub stored : (k : Key) (id : Id) → number_of k es ≡ Some id → (n : Node) × (slab.get nodes id.0 ≡ Some n)
-  pub named : (k : Key) (id : Id) (n : Node) → number_of k es ≡ Some id → slab.get nodes id.0 ≡ Some n → n.key ≡ k
-  pub owned : (i : ℕ) (n : Node) → slab.get nodes i ≡ Some n → number_of n.key es ≡ Some (record { 0 = i })
+  pub stored : (k : Key) (id : Id) → id_for_key k es ≡ Some id → (n : Node) × (slab.get nodes id.0 ≡ Some n)
+  pub named : (k : Key) (id : Id) (n : Node) → id_for_key k es ≡ Some id → slab.get nodes id.0 ≡ Some n → n.key ≡ k
+  pub owned : (i : ℕ) (n : Node) → slab.get nodes i ≡ Some n → id_for_key n.key es ≡ Some (record { 0 = i })
   pub live : (i : ℕ) (n : Node) → slab.get nodes i ≡ Some n → HasLiveLinks nodes n
   pub each : (i : ℕ) (n : Node) → slab.get nodes i ≡ Some n → IsNode limits n
-  pub counted : count_keys (collected nodes es) ≡ length es
+  pub counted : count_keys (stored_by_key nodes es) ≡ length es
   -- there are as many nodes as keys, so each node has a key
   pub no_other : slab.slab_len nodes ≡ length es
   pub few : length es ≤ limits.keys
@@ -176,11 +176,11 @@ IsInOrder s = IsStore s.limits s.nodes s.keys.entries
 -- The store satisfies its invariant and represents some state.
 pub record IsDb (s : Store) : Type 0 where
   pub store : IsInOrder s
-  pub stands : Leads (stock_of s) (λ held. ⊤)
+  pub stands : RepresentsSome (db_view_of s) (λ held. ⊤)
 
 -- The store has this node under this key.
 pub record Holds (s : Store) (key : Key) (id : Id) (n : Node) : Type 0 where
-  pub number : number_of key s.keys.entries ≡ Some id
+  pub number : id_for_key key s.keys.entries ≡ Some id
   pub node : slab.get s.nodes id.0 ≡ Some n
 
 -- The id belongs to a key.
@@ -190,9 +190,9 @@ pub record IsThere (s : Store) (id : Id) : Type 0 where
   pub holds : Holds s key id node
 
 -- the view of a key is what this node has
-pub record Shows (stock : Stock) (key : Key) (n : Node) : Type 0 where
+pub record Shows (db_view : DbView) (key : Key) (n : Node) : Type 0 where
   pub name : n.key ≡ key
-  pub labels : kept_labels_at (get key stock.keys) ≡ n.labels
-  pub list : list_at (get key stock.keys) ≡ list_of n.series
-  pub reached : reach_at stock key ≡ reach n.series
-  pub pieces : pieces_at stock key ≡ n.series.held.pieces
+  pub labels : stored_labels_at (get key db_view.keys) ≡ n.labels
+  pub list : list_at (get key db_view.keys) ≡ list_of n.series
+  pub reached : reach_at db_view key ≡ reach n.series
+  pub pieces : chunk_samples_at db_view key ≡ n.series.held.pieces

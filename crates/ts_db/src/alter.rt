@@ -1,11 +1,11 @@
 // TS.ALTER: new options and labels, and the effect of a new retention on rules and destinations.
 ghost use Rattle.std.specs.Prelude.{◌≡◌, None, IfOk, IfErr, OnErr, ◌*◌};
-ghost use Rattle.ts_spec.specs.KeptStep.{kept_alter};
+ghost use Rattle.ts_spec.specs.StoredStep.{stored_alter};
 ghost use Rattle.ts_sample.specs.Steps.{Takes};
 ghost use Rattle.ts_labels.specs.Spec.{change_of};
-ghost use Rattle.ts_db.specs.Held.{IsOwn, reach_at};
-ghost use Rattle.ts_db.specs.Store.{stock_of, IsInOrder};
-ghost use Rattle.ts_db.specs.Answering.{IsReady, IsApplied, KeptDone};
+ghost use Rattle.ts_db.specs.DbState.{NamesFullSeries, reach_at};
+ghost use Rattle.ts_db.specs.Store.{db_view_of, IsInOrder};
+ghost use Rattle.ts_db.specs.Answering.{IsReady, IsApplied, StoredDone};
 
 use crate::fault::DbFault;
 use crate::node::are_too_many;
@@ -26,12 +26,12 @@ impl Store {
         steps: &mut Steps<L>,
     ) -> Result<(), DbFault>
         requires { IsInOrder self.old }
-        ensures altered { KeptDone (stock_of self.old)
-            (kept_alter self.old.limits (stock_of self.old).keys key.now (change_of change)) result
-            (stock_of self.new) }
-        ensures own { IfErr result (IsOwn (stock_of self.old) key.now) }
+        ensures altered { StoredDone (db_view_of self.old)
+            (stored_alter self.old.limits (db_view_of self.old).keys key.now (change_of change)) result
+            (db_view_of self.new) }
+        ensures own { IfErr result (NamesFullSeries (db_view_of self.old) key.now) }
         ensures store { IsInOrder self.new }
-        ensures steps { Takes steps.old steps.new (2 * reach_at (stock_of self.old) key.now) }
+        ensures steps { Takes steps.old steps.new (2 * reach_at (db_view_of self.old) key.now) }
     {
         let Some(id) = self.keys.get(key).copied() else {
             return Err(DbFault::NoKey);

@@ -6,7 +6,7 @@ ghost use Rattle.ts_spec.specs.Step.{create, alter, add, put_own, incr, delete, 
 ghost use Rattle.ts_sample.specs.Steps.{Takes};
 ghost use Rattle.ts_labels.specs.Spec.{spec_of, change_of};
 ghost use Rattle.ts_db.specs.Faults.{IsRefusal};
-ghost use Rattle.ts_db.specs.Held.{Held, Stands, AnswersDone, AnswersNumber, IsOwn, Drops, reach_at};
+ghost use Rattle.ts_db.specs.DbState.{DbState, Represents, AnswersDone, AnswersCount, NamesFullSeries, Drops, reach_at};
 ghost use Rattle.ts_db.specs.Bounds.{write_steps, IsEasyAppend, IsIgnored, IsChangeIgnored, deletion_steps};
 
 use crate::db::Db;
@@ -24,7 +24,7 @@ impl Db {
     pub fn create(&mut self, key: Word, spec: Spec) -> Result<(), DbFault>
         ensures created { AnswersDone self.old (λ h. create h.limits h.state key (spec_of spec)) result self.new }
         ensures limits { self.new.limits ≡ self.old.limits }
-        ensures own { IfErr result (IsOwn self.old key) }
+        ensures own { IfErr result (NamesFullSeries self.old key) }
     {
         self.store.create(key, spec)
     }
@@ -39,7 +39,7 @@ impl Db {
         ensures altered { AnswersDone self.old (λ h. alter h.limits h.state key.now (change_of change)) result
             self.new }
         ensures limits { self.new.limits ≡ self.old.limits }
-        ensures own { IfErr result (IsOwn self.old key.now) }
+        ensures own { IfErr result (NamesFullSeries self.old key.now) }
         ensures steps { Takes steps.old steps.new (2 * reach_at self.old key.now) }
     {
         self.store.alter(key, change, steps)
@@ -61,11 +61,11 @@ impl Db {
         steps: &mut Steps<L>,
     ) -> Result<u64, DbFault>
         requires time { time ≤ MAX_TIME }
-        ensures added { AnswersNumber self.old (λ h. add h.limits h.state key time value on (spec_of spec)) result
+        ensures added { AnswersCount self.old (λ h. add h.limits h.state key time value on (spec_of spec)) result
             self.new }
         ensures bounded { IfOk result (λ t. t ≤ MAX_TIME) }
         ensures limits { self.new.limits ≡ self.old.limits }
-        ensures own { IfErr result (IsOwn self.old key) }
+        ensures own { IfErr result (NamesFullSeries self.old key) }
         ensures steps { Takes steps.old steps.new (write_steps self.old key time) }
         ensures easy { IsEasyAppend self.old key time → steps.new ≡ steps.old }
         ensures spared { IsIgnored self.old key time value → steps.new ≡ steps.old }
@@ -85,11 +85,11 @@ impl Db {
         steps: &mut Steps<L>,
     ) -> Result<u64, DbFault>
         requires time { time ≤ MAX_TIME }
-        ensures changed { AnswersNumber self.old (λ h. incr h.limits h.state key change time (spec_of spec)) result
+        ensures changed { AnswersCount self.old (λ h. incr h.limits h.state key change time (spec_of spec)) result
             self.new }
         ensures bounded { IfOk result (λ t. t ≤ MAX_TIME) }
         ensures limits { self.new.limits ≡ self.old.limits }
-        ensures own { IfErr result (IsOwn self.old key) }
+        ensures own { IfErr result (NamesFullSeries self.old key) }
         ensures steps { Takes steps.old steps.new (write_steps self.old key time) }
         ensures easy { IsEasyAppend self.old key time → steps.new ≡ steps.old }
         ensures spared { IsChangeIgnored self.old key time change → steps.new ≡ steps.old }
@@ -107,16 +107,16 @@ impl Db {
         steps: &mut Steps<L>,
     ) -> Result<u64, DbFault>
         requires time { time ≤ MAX_TIME }
-        ensures put { AnswersNumber self.old (λ h. put_own h.limits h.state key.now time value) result self.new }
+        ensures put { AnswersCount self.old (λ h. put_own h.limits h.state key.now time value) result self.new }
         ensures bounded { IfOk result (λ t. t ≤ MAX_TIME) }
         ensures limits { self.new.limits ≡ self.old.limits }
-        ensures own { IfErr result (IsOwn self.old key.now) }
+        ensures own { IfErr result (NamesFullSeries self.old key.now) }
         ensures steps { Takes steps.old steps.new (write_steps self.old key.now time) }
         ensures easy { IsEasyAppend self.old key.now time → steps.new ≡ steps.old }
         ensures spared { IsIgnored self.old key.now time value → steps.new ≡ steps.old }
     {
         let mut hints = Hints::none(self.store.alloc);
-        self.put_near(&mut hints, key, time, value, None, steps)
+        self.put_with_hints(&mut hints, key, time, value, None, steps)
     }
 
     /// Deletes the samples from `from` to `to`, in milliseconds and inclusive (TS.DEL). Returns how many it deleted; 0
@@ -129,10 +129,10 @@ impl Db {
         steps: &mut Steps<L>,
     ) -> Result<u64, DbFault>
         requires time { from ≤ MAX_TIME }
-        ensures deleted { AnswersNumber self.old (λ h. delete h.limits h.state key.now from to) result self.new }
+        ensures deleted { AnswersCount self.old (λ h. delete h.limits h.state key.now from to) result self.new }
         ensures bounded { IfOk result (λ n. n ≤ MAX_TIME) }
         ensures limits { self.new.limits ≡ self.old.limits }
-        ensures own { IfErr result (IsOwn self.old key.now) }
+        ensures own { IfErr result (NamesFullSeries self.old key.now) }
         ensures steps { Takes steps.old steps.new (deletion_steps self.old key.now from to) }
     {
         self.store.delete_range(key, from, to, steps)
@@ -167,7 +167,7 @@ impl Db {
     /// nothing.
     pub fn drop_key(&mut self, key: &Word) -> bool
         ensures there { result ≡ is_some (get key.now self.old.keys) }
-        ensures dropped { (from : Held) → Stands self.old from → Drops key.now result from self.new }
+        ensures dropped { (from : DbState) → Represents self.old from → Drops key.now result from self.new }
         ensures limits { self.new.limits ≡ self.old.limits }
     {
         self.store.drop_key(key)

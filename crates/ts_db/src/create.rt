@@ -2,14 +2,14 @@
 ghost use Rattle.std.specs.Prelude.{◌≡◌, ◌≤◌, ◌<◌, [], ◌∷◌, length, None, Some, IfOk, IfErr};
 ghost use Rattle.ts_spec.specs.Sample.{MAX_TIME};
 ghost use Rattle.ts_spec.specs.Keyed.{get, with_key, count_keys};
-ghost use Rattle.ts_spec.specs.Keeping.{kept_fresh};
-ghost use Rattle.ts_spec.specs.KeptStep.{kept_create, kept_create_with};
+ghost use Rattle.ts_spec.specs.StoredKeys.{stored_fresh};
+ghost use Rattle.ts_spec.specs.StoredStep.{stored_create, stored_create_with};
 ghost use Rattle.ts_labels.specs.Spec.{spec_of};
 ghost use Rattle.ts_series.specs.History.{list_of, IsKept};
 ghost use Rattle.ts_db.specs.Faults.{IsMemory};
-ghost use Rattle.ts_db.specs.Held.{IsOwn};
-ghost use Rattle.ts_db.specs.Store.{kept_series, stock_of, IsInOrder};
-ghost use Rattle.ts_db.specs.Answering.{KeptDone, KeptNumber};
+ghost use Rattle.ts_db.specs.DbState.{NamesFullSeries};
+ghost use Rattle.ts_db.specs.Store.{stored_series, db_view_of, IsInOrder};
+ghost use Rattle.ts_db.specs.Answering.{StoredDone, StoredCount};
 
 use crate::fault::DbFault;
 use crate::node::Node;
@@ -26,10 +26,10 @@ impl Store {
     // Creates an empty series.
     pub(crate) fn create(&mut self, key: Word, spec: Spec) -> Result<(), DbFault>
         requires { IsInOrder self.old }
-        ensures created { KeptDone (stock_of self.old)
-            (kept_create self.old.limits (stock_of self.old).keys key (spec_of spec)) result (stock_of self.new) }
+        ensures created { StoredDone (db_view_of self.old)
+            (stored_create self.old.limits (db_view_of self.old).keys key (spec_of spec)) result (db_view_of self.new) }
         ensures store { IsInOrder self.new }
-        ensures own { IfErr result (IsOwn (stock_of self.old) key) }
+        ensures own { IfErr result (NamesFullSeries (db_view_of self.old) key) }
     {
         if self.has(&key) {
             return Err(DbFault::KeyExists);
@@ -47,17 +47,17 @@ impl Store {
     // Stores a series with its labels under a new key.
     fn insert(&mut self, key: Word, series: Series, labels: Labels) -> Result<(), DbFault>
         requires store { IsInOrder self.old }
-        requires absent { get key (stock_of self.old).keys ≡ None }
-        requires room { count_keys (stock_of self.old).keys < self.old.limits.keys }
+        requires absent { get key (db_view_of self.old).keys ≡ None }
+        requires room { count_keys (db_view_of self.old).keys < self.old.limits.keys }
         requires kept { IsKept series }
         requires within { length (list_of series) ≤ self.old.limits.samples }
         requires born { series.born ≤ self.old.limits.born }
         requires labels { length labels ≤ self.old.limits.labels }
-        ensures added { IfOk result (λ _. (stock_of self.new).keys
-            ≡ with_key key (kept_series labels series) (stock_of self.old).keys) }
+        ensures added { IfOk result (λ _. (db_view_of self.new).keys
+            ≡ with_key key (stored_series labels series) (db_view_of self.old).keys) }
         ensures limits { self.new.limits ≡ self.old.limits }
         ensures memory { IfErr result IsMemory }
-        ensures unchanged { IfErr result (λ _. stock_of self.new ≡ stock_of self.old) }
+        ensures unchanged { IfErr result (λ _. db_view_of self.new ≡ db_view_of self.old) }
         ensures store { IsInOrder self.new }
     {
         let name = match key.copy() {
@@ -78,7 +78,7 @@ impl Store {
     }
 
     // Creates a series with one sample under a new key.
-    pub(crate) fn begin<L: Ledger>(
+    pub(crate) fn create_with_sample<L: Ledger>(
         &mut self,
         key: Word,
         spec: Spec,
@@ -88,12 +88,12 @@ impl Store {
     ) -> Result<u64, DbFault>
         requires time { time ≤ MAX_TIME }
         requires store { IsInOrder self.old }
-        requires absent { get key (stock_of self.old).keys ≡ None }
-        ensures begun { KeptNumber (stock_of self.old)
-            (kept_create_with self.old.limits (stock_of self.old).keys key (spec_of spec) time value) result
-            (stock_of self.new) }
+        requires absent { get key (db_view_of self.old).keys ≡ None }
+        ensures begun { StoredCount (db_view_of self.old)
+            (stored_create_with self.old.limits (db_view_of self.old).keys key (spec_of spec) time value) result
+            (db_view_of self.new) }
         ensures bounded { IfOk result (λ t. t ≤ MAX_TIME) }
-        ensures own { IfErr result (IsOwn (stock_of self.old) key) }
+        ensures own { IfErr result (NamesFullSeries (db_view_of self.old) key) }
         ensures store { IsInOrder self.new }
         ensures counted { steps.old ≤ steps.new }
         ensures steps { steps.new ≡ steps.old }
@@ -123,8 +123,9 @@ fn begun<L: Ledger>(
     steps: &mut Steps<L>,
 ) -> Result<Series, AllocError>
     requires time { time ≤ MAX_TIME }
-    ensures begun { IfOk result (λ series. kept_series [] series
-        ≡ kept_fresh (record { options = options; labels = [] }) (record { time = time; value = value; made = 0 } ∷ [])
+    ensures begun { IfOk result (λ series. stored_series [] series
+        ≡ stored_fresh (record { options = options; labels = [] })
+        (record { time = time; value = value; made = 0 } ∷ [])
         (Some time)) }
     ensures kept { IfOk result (λ series. IsKept series) }
     ensures counted { steps.old ≤ steps.new }

@@ -2,7 +2,7 @@
 ghost use Rattle.std.specs.Prelude.{◌≡◌, ◌≤◌, ⊤, nat_le, is_some};
 ghost use Rattle.ts_spec.specs.Keyed.{none, get, count_keys};
 ghost use Rattle.ts_spec.specs.State.{empty};
-ghost use Rattle.ts_db.specs.Held.{Held, Stands, Leads};
+ghost use Rattle.ts_db.specs.DbState.{DbState, Represents, RepresentsSome};
 
 use crate::nodes::Nodes;
 use crate::store::Store;
@@ -19,12 +19,12 @@ pub struct Db {
 }
 
 impl Model for Db {
-    ghost use Rattle.ts_db.specs.Held.{Stock};
-    ghost use Rattle.ts_db.specs.Store.{stock_of, IsDb};
+    ghost use Rattle.ts_db.specs.DbState.{DbView};
+    ghost use Rattle.ts_db.specs.Store.{db_view_of, IsDb};
 
-    ghost Value = { Stock };
+    ghost Value = { DbView };
 
-    ghost view = { λ d. stock_of d.store };
+    ghost view = { λ d. db_view_of d.store };
 
     ghost invariant = { λ d. IsDb d.store };
 }
@@ -36,7 +36,7 @@ impl Db {
         ensures limits { result.limits ≡ limits }
         ensures keys { result.keys ≡ none }
         ensures ids { result.ids ≡ none }
-        ensures stands { Stands result (record { limits = limits; state = empty }) }
+        ensures stands { Represents result (record { limits = limits; state = empty }) }
     {
         Db {
             store: Store {
@@ -51,7 +51,7 @@ impl Db {
     /// Whether the key exists.
     pub fn has(&self, key: &Word) -> bool
         ensures there { result ≡ is_some (get key.now self.now.keys) }
-        ensures each { (held : Held) → Stands self.now held → result ≡ is_some (get key.now held.state) }
+        ensures each { (held : DbState) → Represents self.now held → result ≡ is_some (get key.now held.state) }
     {
         self.store.has(key)
     }
@@ -59,7 +59,7 @@ impl Db {
     /// The number of keys.
     pub fn count(&self) -> u32
         ensures keys { result ≡ count_keys self.now.keys }
-        ensures each { (held : Held) → Stands self.now held → result ≡ count_keys held.state }
+        ensures each { (held : DbState) → Represents self.now held → result ≡ count_keys held.state }
     {
         self.store.keys.len().min(self.store.limits.keys as usize) as u32
     }
@@ -67,7 +67,8 @@ impl Db {
     /// Whether the database holds as many keys as its limits allow. Allocates nothing.
     pub fn is_full(&self) -> bool
         ensures full { result ≡ nat_le self.now.limits.keys (count_keys self.now.keys) }
-        ensures each { (held : Held) → Stands self.now held → result ≡ nat_le held.limits.keys (count_keys held.state) }
+        ensures each { (held : DbState) → Represents self.now held
+            → result ≡ nat_le held.limits.keys (count_keys held.state) }
     {
         self.store.is_full()
     }
@@ -75,7 +76,7 @@ impl Db {
     /// The limits. The contract also tells callers that the database represents some state.
     pub fn limits(&self) -> Limits
         ensures limits { result ≡ self.now.limits }
-        ensures stands { Leads self.now (λ held. ⊤) }
+        ensures stands { RepresentsSome self.now (λ held. ⊤) }
     {
         self.store.limits
     }

@@ -1,20 +1,20 @@
 // TS.DEL: deletes samples and updates the destinations of rules.
 ghost use Rattle.std.specs.Prelude.{◌≡◌, ◌≤◌, [], length, Some, IfOk, IfErr};
 ghost use Rattle.ts_spec.specs.Key.{Key};
-ghost use Rattle.ts_spec.specs.Mending.{keep_deleted};
+ghost use Rattle.ts_spec.specs.StoredUpdates.{keys_deleted};
 ghost use Rattle.ts_spec.specs.Response.{Count};
 ghost use Rattle.ts_spec.specs.Sample.{MAX_TIME, between};
-ghost use Rattle.ts_spec.specs.KeptStep.{kept_delete, kept_meets_expired, kept_within_destinations};
+ghost use Rattle.ts_spec.specs.StoredStep.{stored_delete, stored_meets_expired, stored_within_destinations};
 ghost use Rattle.ts_sample.specs.Steps.{Takes};
 ghost use Rattle.ts_series.specs.History.{list_of};
 ghost use Rattle.ts_db.specs.declared.node.Node.{Node as TheNode};
-ghost use Rattle.ts_db.specs.Held.{IsOwn};
-ghost use Rattle.ts_db.specs.Store.{key_in, rules_by, stock_of, number_of, IsInOrder, IsDb, IsThere, Holds};
-ghost use Rattle.ts_db.specs.Answering.{KeptNumber};
+ghost use Rattle.ts_db.specs.DbState.{NamesFullSeries};
+ghost use Rattle.ts_db.specs.Store.{key_in, rules_by, db_view_of, id_for_key, IsInOrder, IsDb, IsThere, Holds};
+ghost use Rattle.ts_db.specs.Answering.{StoredCount};
 ghost use Rattle.ts_db.specs.Bounds.{deletion_steps};
 
 use crate::fault::DbFault;
-use crate::planning::Work;
+use crate::planning::SourceChange;
 use crate::store::Store;
 use std::sync::ledger::Ledger;
 use ts_resp::Word;
@@ -32,12 +32,12 @@ impl Store {
     ) -> Result<u64, DbFault>
         requires time { from ≤ MAX_TIME }
         requires db { IsDb self.old }
-        ensures deleted { KeptNumber (stock_of self.old)
-            (kept_delete self.old.limits (stock_of self.old).keys key.now from to) result (stock_of self.new) }
+        ensures deleted { StoredCount (db_view_of self.old)
+            (stored_delete self.old.limits (db_view_of self.old).keys key.now from to) result (db_view_of self.new) }
         ensures bounded { IfOk result (λ n. n ≤ MAX_TIME) }
-        ensures own { IfErr result (IsOwn (stock_of self.old) key.now) }
+        ensures own { IfErr result (NamesFullSeries (db_view_of self.old) key.now) }
         ensures store { IsInOrder self.new }
-        ensures steps { Takes steps.old steps.new (deletion_steps (stock_of self.old) key.now from to) }
+        ensures steps { Takes steps.old steps.new (deletion_steps (db_view_of self.old) key.now from to) }
     {
         let Some(id) = self.keys.get(key).copied() else {
             return Err(DbFault::NoKey);
@@ -63,22 +63,22 @@ impl Store {
     ) -> Result<u64, DbFault>
         requires db { IsDb self.old }
         requires there { IsThere self.old id }
-        ensures deleted { (key : Key) (n : TheNode) → Holds self.old key id n → KeptNumber (stock_of self.old)
-            (kept_within_destinations self.old.limits (stock_of self.old).keys key
-            (record { keys = keep_deleted key from to (stock_of self.old).keys; response = Count (length (between from to (list_of n.series))) }))
-            result (stock_of self.new) }
+        ensures deleted { (key : Key) (n : TheNode) → Holds self.old key id n → StoredCount (db_view_of self.old)
+            (stored_within_destinations self.old.limits (db_view_of self.old).keys key
+            (record { keys = keys_deleted key from to (db_view_of self.old).keys; response = Count (length (between from to (list_of n.series))) }))
+            result (db_view_of self.new) }
         ensures bounded { IfOk result (λ n. n ≤ MAX_TIME) }
-        ensures own { (key : Key) → number_of key self.old.keys.entries ≡ Some id
-            → IfErr result (IsOwn (stock_of self.old) key) }
+        ensures own { (key : Key) → id_for_key key self.old.keys.entries ≡ Some id
+            → IfErr result (NamesFullSeries (db_view_of self.old) key) }
         ensures store { IsInOrder self.new }
         ensures steps { Takes steps.old steps.new
-            (deletion_steps (stock_of self.old) (key_in self.old.nodes id) from to) }
+            (deletion_steps (db_view_of self.old) (key_in self.old.nodes id) from to) }
     {
         let node = self.nodes.node(id);
-        let work = Work::Delete(from, to);
+        let work = SourceChange::Delete(from, to);
         let plan = match node.series.cut(from, to, steps) {
             Ok(plan) => plan,
-            Err(_) => return Err(self.unplanned(&node.rules, &node.series, &work, steps)),
+            Err(_) => return Err(self.plan_fault(&node.rules, &node.series, &work, steps)),
         };
         let removed = plan.removed();
         let planned = match self.plan_rules(&node.rules, &node.series, &work, steps) {
@@ -86,7 +86,7 @@ impl Store {
             Err(fault) => return Err(fault),
         };
         self.apply(id, plan, Some(planned.rules));
-        self.feed(planned.plans);
+        self.update_destinations(planned.plans);
         Ok(removed)
     }
 }
@@ -94,7 +94,7 @@ impl Store {
 // Whether the bucket of `from` starts before the retention edge, for any of these rules.
 fn meet_expired(rules: &[Rule], from: u64, edge: u64) -> bool
     requires { from ≤ MAX_TIME }
-    ensures { result ≡ kept_meets_expired from edge (rules_by (λ id. []) rules.now) }
+    ensures { result ≡ stored_meets_expired from edge (rules_by (λ id. []) rules.now) }
 {
     for rule in rules {
         if rule.grid.start_of(from) < edge {

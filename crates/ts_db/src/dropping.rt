@@ -2,10 +2,11 @@
 ghost use Rattle.std.specs.Prelude.{◌≡◌, None, is_some, if◌then◌else◌, option_map};
 ghost use Rattle.ts_spec.specs.Key.{Key};
 ghost use Rattle.ts_spec.specs.Keyed.{get, without_key};
-ghost use Rattle.ts_spec.specs.Keeping.{keep_dropped};
+ghost use Rattle.ts_spec.specs.StoredKeys.{keys_dropped};
 ghost use Rattle.ts_db.specs.declared.node.Node.{Node as TheNode};
-ghost use Rattle.ts_db.specs.Linking.{keep_unled, AreFreeOf, IsAlone, KeepsNames};
-ghost use Rattle.ts_db.specs.Store.{key_in, stock_of, contents_of, number_of, IsInOrder, IsDb, HasNode, IsLiveSource};
+ghost use Rattle.ts_db.specs.Linking.{keys_rule_ended, AreFreeOf, IsAlone, KeepsNames};
+ghost use Rattle.ts_db.specs.Store.{key_in, db_view_of, contents_of, id_for_key, IsInOrder, IsDb, HasNode};
+ghost use Rattle.ts_db.specs.Store.{IsLiveSource};
 ghost use Rattle.ts_db.specs.Store.{IsThere, Holds};
 
 use crate::store::Store;
@@ -16,10 +17,10 @@ impl Store {
     // Deletes a key with its series and all rules from and to it. Returns whether the key existed. Allocates nothing.
     pub(crate) fn drop_key(&mut self, key: &Word) -> bool
         requires { IsDb self.old }
-        ensures there { result ≡ is_some (get key.now (stock_of self.old).keys) }
-        ensures keys { (stock_of self.new).keys
-            ≡ (if is_some (get key.now (stock_of self.old).keys) then keep_dropped key.now (stock_of self.old).keys
-            else (stock_of self.old).keys) }
+        ensures there { result ≡ is_some (get key.now (db_view_of self.old).keys) }
+        ensures keys { (db_view_of self.new).keys
+            ≡ (if is_some (get key.now (db_view_of self.old).keys) then keys_dropped key.now (db_view_of self.old).keys
+            else (db_view_of self.old).keys) }
         ensures limits { self.new.limits ≡ self.old.limits }
         ensures store { IsInOrder self.new }
     {
@@ -52,7 +53,7 @@ impl Store {
         requires source { IsLiveSource self.old.nodes source }
         ensures store { IsInOrder self.new }
         ensures ended { contents_of self.new
-            ≡ record (contents_of self.old) { keys = keep_unled (option_map (key_in self.old.nodes) source) (key_in self.old.nodes id) (stock_of self.old).keys } }
+            ≡ record (contents_of self.old) { keys = keys_rule_ended (option_map (key_in self.old.nodes) source) (key_in self.old.nodes id) (db_view_of self.old).keys } }
         ensures names { KeepsNames self.old self.new }
     {
         match source {
@@ -64,9 +65,9 @@ impl Store {
     // Deletes a key and its series, which must have no rules from or to it.
     fn remove_key(&mut self, key: &Word)
         requires store { IsInOrder self.old }
-        requires there { number_of key.now self.old.keys.entries ≡ None → ⊥ }
-        requires free { AreFreeOf key.now (stock_of self.old).keys }
-        ensures keys { (stock_of self.new).keys ≡ without_key key.now (stock_of self.old).keys }
+        requires there { id_for_key key.now self.old.keys.entries ≡ None → ⊥ }
+        requires free { AreFreeOf key.now (db_view_of self.old).keys }
+        ensures keys { (db_view_of self.new).keys ≡ without_key key.now (db_view_of self.old).keys }
         ensures limits { self.new.limits ≡ self.old.limits }
         ensures store { IsInOrder self.new }
     {

@@ -3,10 +3,10 @@ ghost use Rattle.std.specs.Prelude.{◌≡◌, ◌≤◌, IfOk, IfErr};
 ghost use Rattle.ts_spec.specs.Sample.{MAX_TIME};
 ghost use Rattle.ts_spec.specs.Keyed.{get};
 ghost use Rattle.ts_sample.specs.Steps.{Takes};
-ghost use Rattle.ts_db.specs.Held.{AnswersNumber, IsOwn};
-ghost use Rattle.ts_db.specs.Store.{stock_of, number_of, IsInOrder, IsDb};
-ghost use Rattle.ts_db.specs.Answering.{KeptNumber};
-ghost use Rattle.ts_db.specs.PutBy.{put_by, kept_put_by};
+ghost use Rattle.ts_db.specs.DbState.{AnswersCount, NamesFullSeries};
+ghost use Rattle.ts_db.specs.Store.{db_view_of, id_for_key, IsInOrder, IsDb};
+ghost use Rattle.ts_db.specs.Answering.{StoredCount};
+ghost use Rattle.ts_db.specs.PutBy.{put_with_policy, stored_put_with_policy};
 ghost use Rattle.ts_db.specs.Bounds.{write_steps, IsEasyAppend, IsIgnored};
 
 use crate::db::Db;
@@ -20,7 +20,7 @@ use ts_sample::{Id, Steps, Units};
 use ts_spec::Policy;
 
 // The number of slots.
-const PLACES: usize = 4096;
+const SLOTS: usize = 4096;
 
 /// A cache of ids of recently written keys. A caller that writes the same keys repeatedly passes it to each write,
 /// which then skips the key lookup. Results do not depend on it.
@@ -36,7 +36,7 @@ impl Hints {
     /// An empty cache. Allocates nothing until first use.
     pub fn new(alloc: Global) -> Hints {
         Hints {
-            places: PLACES,
+            places: SLOTS,
             ids: Vec::new(alloc),
         }
     }
@@ -66,19 +66,19 @@ impl Hints {
 }
 
 // The slot of a key.
-pub(crate) fn place_of(key: &Word) -> usize {
+pub(crate) fn slot_of(key: &Word) -> usize {
     let mut sum: usize = 0;
     for byte in key.bytes() {
         sum = sum.wrapping_mul(435).wrapping_add(*byte as usize);
     }
-    sum % PLACES
+    sum % SLOTS
 }
 
 impl Db {
     /// Adds a sample to an existing series, looking its id up in the hints first. If the series already has a sample
     /// at `time`, resolves the conflict by `on`, or by the series' duplicate policy if `on` is `None`. Returns the
     /// sample's time, or the last sample's time if the write was ignored (IGNORE).
-    pub fn put_near<L: Ledger>(
+    pub fn put_with_hints<L: Ledger>(
         &mut self,
         hints: &mut Hints,
         key: &Word,
@@ -88,21 +88,23 @@ impl Db {
         steps: &mut Steps<L>,
     ) -> Result<u64, DbFault>
         requires time { time ≤ MAX_TIME }
-        ensures put { AnswersNumber self.old (λ h. put_by h.limits h.state key.now time value on) result self.new }
+        ensures put { AnswersCount self.old (λ h. put_with_policy h.limits h.state key.now time value on) result
+            self.new }
         ensures bounded { IfOk result (λ t. t ≤ MAX_TIME) }
         ensures limits { self.new.limits ≡ self.old.limits }
-        ensures own { IfErr result (IsOwn self.old key.now) }
+        ensures own { IfErr result (NamesFullSeries self.old key.now) }
         ensures steps { Takes steps.old steps.new (write_steps self.old key.now time) }
         ensures easy { IsEasyAppend self.old key.now time → steps.new ≡ steps.old }
         ensures spared { IsIgnored self.old key.now time value → steps.new ≡ steps.old }
     {
-        self.store.put_near(hints, key, time, value, on, steps)
+        self.store
+            .put_with_hints(hints, key, time, value, on, steps)
     }
 }
 
 impl Store {
     // Adds a sample to an existing series, looking its id up in the hints first.
-    pub(crate) fn put_near<L: Ledger>(
+    pub(crate) fn put_with_hints<L: Ledger>(
         &mut self,
         hints: &mut Hints,
         key: &Word,
@@ -113,17 +115,18 @@ impl Store {
     ) -> Result<u64, DbFault>
         requires time { time ≤ MAX_TIME }
         requires db { IsDb self.old }
-        ensures put { KeptNumber (stock_of self.old)
-            (kept_put_by self.old.limits (stock_of self.old).keys key.now time value on) result (stock_of self.new) }
+        ensures put { StoredCount (db_view_of self.old)
+            (stored_put_with_policy self.old.limits (db_view_of self.old).keys key.now time value on) result
+            (db_view_of self.new) }
         ensures bounded { IfOk result (λ t. t ≤ MAX_TIME) }
-        ensures own { IfErr result (IsOwn (stock_of self.old) key.now) }
+        ensures own { IfErr result (NamesFullSeries (db_view_of self.old) key.now) }
         ensures store { IsInOrder self.new }
-        ensures steps { Takes steps.old steps.new (write_steps (stock_of self.old) key.now time) }
-        ensures easy { IsEasyAppend (stock_of self.old) key.now time → steps.new ≡ steps.old }
-        ensures spared { IsIgnored (stock_of self.old) key.now time value → steps.new ≡ steps.old }
+        ensures steps { Takes steps.old steps.new (write_steps (db_view_of self.old) key.now time) }
+        ensures easy { IsEasyAppend (db_view_of self.old) key.now time → steps.new ≡ steps.old }
+        ensures spared { IsIgnored (db_view_of self.old) key.now time value → steps.new ≡ steps.old }
     {
-        let place = place_of(key);
-        let Some(id) = self.number_near(hints, key, place) else {
+        let place = slot_of(key);
+        let Some(id) = self.id_with_hints(hints, key, place) else {
             return Err(DbFault::NoKey);
         };
         let answer = self.write(id, merge_by(on), time, value, steps);
@@ -132,9 +135,9 @@ impl Store {
     }
 
     // The id of a key, if it exists: the hinted one if its node has the key.
-    fn number_near(&self, hints: &Hints, key: &Word, place: usize) -> Option<Id>
+    fn id_with_hints(&self, hints: &Hints, key: &Word, place: usize) -> Option<Id>
         requires { IsInOrder self.now }
-        ensures { result ≡ number_of key.now self.now.keys.entries }
+        ensures { result ≡ id_for_key key.now self.now.keys.entries }
     {
         if let Some(id) = hints.at(place)
             && let Some(node) = self.nodes.get(id.0)

@@ -3,13 +3,13 @@ ghost use Rattle.std.specs.Prelude.{◌≡◌, ◌≤◌, IfOk, IfErr};
 ghost use Rattle.ts_spec.specs.Sample.{MAX_TIME, last_of};
 ghost use Rattle.ts_spec.specs.Rules.{within_bound};
 ghost use Rattle.ts_spec.specs.Step.{is_before_last, changed_value};
-ghost use Rattle.ts_spec.specs.KeptStep.{kept_incr};
+ghost use Rattle.ts_spec.specs.StoredStep.{stored_incr};
 ghost use Rattle.ts_sample.specs.Steps.{Takes};
 ghost use Rattle.ts_labels.specs.Spec.{spec_of};
 ghost use Rattle.ts_series.specs.History.{list_of};
-ghost use Rattle.ts_db.specs.Held.{IsOwn};
-ghost use Rattle.ts_db.specs.Store.{stock_of, IsInOrder, IsDb};
-ghost use Rattle.ts_db.specs.Answering.{KeptNumber};
+ghost use Rattle.ts_db.specs.DbState.{NamesFullSeries};
+ghost use Rattle.ts_db.specs.Store.{db_view_of, IsInOrder, IsDb};
+ghost use Rattle.ts_db.specs.Answering.{StoredCount};
 ghost use Rattle.ts_db.specs.Writes.{IsChanged};
 ghost use Rattle.ts_db.specs.Bounds.{write_steps, IsEasyAppend, IsChangeIgnored};
 
@@ -35,18 +35,18 @@ impl Store {
     ) -> Result<u64, DbFault>
         requires time { time ≤ MAX_TIME }
         requires db { IsDb self.old }
-        ensures changed { KeptNumber (stock_of self.old)
-            (kept_incr self.old.limits (stock_of self.old).keys key change time (spec_of spec)) result
-            (stock_of self.new) }
+        ensures changed { StoredCount (db_view_of self.old)
+            (stored_incr self.old.limits (db_view_of self.old).keys key change time (spec_of spec)) result
+            (db_view_of self.new) }
         ensures bounded { IfOk result (λ t. t ≤ MAX_TIME) }
-        ensures own { IfErr result (IsOwn (stock_of self.old) key) }
+        ensures own { IfErr result (NamesFullSeries (db_view_of self.old) key) }
         ensures store { IsInOrder self.new }
-        ensures steps { Takes steps.old steps.new (write_steps (stock_of self.old) key time) }
-        ensures easy { IsEasyAppend (stock_of self.old) key time → steps.new ≡ steps.old }
-        ensures spared { IsChangeIgnored (stock_of self.old) key time change → steps.new ≡ steps.old }
+        ensures steps { Takes steps.old steps.new (write_steps (db_view_of self.old) key time) }
+        ensures easy { IsEasyAppend (db_view_of self.old) key time → steps.new ≡ steps.old }
+        ensures spared { IsChangeIgnored (db_view_of self.old) key time change → steps.new ≡ steps.old }
     {
         let Some(id) = self.keys.get(&key).copied() else {
-            return self.begin(key, spec, time, change, steps);
+            return self.create_with_sample(key, spec, time, change, steps);
         };
         let node = self.nodes.node(id);
         if is_before(&node.series, time) {

@@ -1,13 +1,13 @@
 // The facts about a series that TS.INFO reports.
 ghost use Rattle.std.specs.Prelude.{◌≡◌, map, option_map, Some, IfOk, ◌*◌};
-ghost use Rattle.ts_spec.specs.KeptQuestions.{kept_rule_info, kept_info_response};
-ghost use Rattle.ts_spec.specs.Questions.{time_or_0};
-ghost use Rattle.ts_spec.specs.Response.{Told};
+ghost use Rattle.ts_spec.specs.StoredQueries.{stored_rule_info, stored_info_response};
+ghost use Rattle.ts_spec.specs.Queries.{time_or_0};
+ghost use Rattle.ts_spec.specs.Response.{KeyInfo};
 ghost use Rattle.ts_sample.specs.Steps.{Takes};
 ghost use Rattle.ts_series.specs.History.{reach};
-ghost use Rattle.ts_rules.specs.Rules.{kept_with_dest};
+ghost use Rattle.ts_rules.specs.Rules.{stored_rule_for};
 ghost use Rattle.ts_db.specs.Information.{rule_info_of, info_of};
-ghost use Rattle.ts_db.specs.Store.{rules_by, key_in, kept_node, HasNode, AreLive, IsLiveSource, HasLiveLinks};
+ghost use Rattle.ts_db.specs.Store.{rules_by, key_in, stored_node, HasNode, AreLive, IsLiveSource, HasLiveLinks};
 ghost use Rattle.ts_db.specs.Store.{IsInOrder};
 
 use crate::node::Node;
@@ -55,8 +55,8 @@ impl Store {
     ) -> Result<Info, AllocError>
         requires store { IsInOrder self.now }
         requires links { HasLiveLinks self.now.nodes node.now }
-        ensures info { IfOk result (λ info. Told (info_of info)
-            ≡ kept_info_response (Some (kept_node self.now.nodes node.now))) }
+        ensures info { IfOk result (λ info. KeyInfo (info_of info)
+            ≡ stored_info_response (Some (stored_node self.now.nodes node.now))) }
         ensures steps { Takes steps.old steps.new (2 * reach node.now.series) }
     {
         let first = node.series.first(steps);
@@ -89,7 +89,7 @@ impl Store {
         requires store { IsInOrder self.now }
         requires live { AreLive self.now.nodes rules.now }
         ensures { IfOk result (λ infos. map rule_info_of infos.items
-            ≡ map kept_rule_info (rules_by (key_in self.now.nodes) rules.now)) }
+            ≡ map stored_rule_info (rules_by (key_in self.now.nodes) rules.now)) }
     {
         let mut infos = Vec::with_capacity(self.alloc, rules.len())?;
         for rule in rules {
@@ -103,7 +103,7 @@ impl Store {
         requires store { IsInOrder self.now }
         requires live { HasNode self.now.nodes rule.now.dest }
         ensures { IfOk result (λ info. rule_info_of info
-            ≡ kept_rule_info (kept_with_dest (key_in self.now.nodes rule.now.dest) rule.now)) }
+            ≡ stored_rule_info (stored_rule_for (key_in self.now.nodes rule.now.dest) rule.now)) }
     {
         Ok(RuleInfo {
             dest: self.copied_key(rule.dest)?,

@@ -2,16 +2,16 @@
 ghost use Rattle.std.specs.Prelude.{◌≡◌, ◌≤◌, ◌+◌, length, is_some, IfOk, OnErr};
 ghost use Rattle.ts_spec.specs.Filter.{all_hold, selection};
 ghost use Rattle.ts_spec.specs.Keyed.{get};
-ghost use Rattle.ts_spec.specs.KeptQuestions.{kept_selection};
+ghost use Rattle.ts_spec.specs.StoredQueries.{stored_selection};
 ghost use Rattle.ts_spec.specs.Totals.{total_shown};
 ghost use Rattle.ts_sample.specs.Steps.{Takes};
-ghost use Rattle.ts_db.specs.Held.{Held, Stands, AreNumbersOf, IsLive};
+ghost use Rattle.ts_db.specs.DbState.{DbState, Represents, AreIdsOf, IsLive};
 ghost use Rattle.ts_db.specs.Bounds.{reach_of_all, selection_steps, fewest};
 ghost use Rattle.std.specs.List.{All};
 ghost use Rattle.ts_db.specs.Candidates.{Covers};
 
 use crate::db::Db;
-use crate::ordered::walked_if_many;
+use crate::key_order::in_key_order_if_many;
 use std::alloc::AllocError;
 use std::sync::ledger::Ledger;
 use ts_index::Candidates;
@@ -35,14 +35,14 @@ impl Db {
         steps: &mut Steps<L>,
     ) -> Result<Vec<Id>, AllocError>
         ensures numbers { IfOk result
-            (λ ids. AreNumbersOf self.now.ids (kept_selection self.now.keys filters.now) ids.items) }
-        ensures each { (held : Held) → Stands self.now held
-            → IfOk result (λ ids. AreNumbersOf self.now.ids (selection held.state filters.now) ids.items) }
+            (λ ids. AreIdsOf self.now.ids (stored_selection self.now.keys filters.now) ids.items) }
+        ensures each { (held : DbState) → Represents self.now held
+            → IfOk result (λ ids. AreIdsOf self.now.ids (selection held.state filters.now) ids.items) }
         ensures unspent { OnErr result (steps.new ≡ steps.old) }
         ensures steps { steps.new ≤ steps.old + selection_steps self.now filters.now }
     {
         let mut ids = self.store.index().select(filters, steps)?;
-        if let Some(found) = walked_if_many(self.store.alloc, &self.store.keys, &ids) {
+        if let Some(found) = in_key_order_if_many(self.store.alloc, &self.store.keys, &ids) {
             return Ok(found);
         }
         self.store.nodes.sort_by_key(&mut ids);
@@ -51,7 +51,7 @@ impl Db {
 
     /// The number of samples in all series. Allocates nothing.
     pub fn total<L: Ledger>(&self, steps: &mut Steps<L>) -> u64
-        ensures each { (held : Held) → Stands self.now held → result ≡ total_shown held.state }
+        ensures each { (held : DbState) → Represents self.now held → result ≡ total_shown held.state }
         ensures steps { Takes steps.old steps.new (reach_of_all self.now) }
     {
         let _keys = self.store.limits.keys;

@@ -2,30 +2,30 @@
 #![tactic(auto)]
 
 mod alter;
-mod among;
+mod by_id;
 mod changes;
 mod create;
 mod db;
 mod deletion;
 mod dropping;
 mod fault;
-mod growing;
 mod hints;
 mod increase;
 mod info;
+mod key_order;
 mod keys;
 mod latest;
 mod node;
+mod node_changes;
 mod nodes;
-mod numbered;
-mod ordered;
+mod open_append;
+mod plan_fault;
 mod planning;
-mod questions;
+mod queries;
+mod row_merger;
 mod ruling;
+mod scans;
 mod store;
-mod turning;
-mod unplanned;
-mod walks;
 mod write;
 
 pub use db::Db;

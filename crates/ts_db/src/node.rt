@@ -5,8 +5,8 @@ ghost use Rattle.ts_spec.specs.Step.{is_longer};
 ghost use Rattle.ts_spec.specs.Aggregate.{nothing};
 ghost use Rattle.ts_spec.specs.Key.{Key};
 ghost use Rattle.ts_series.specs.History.{IsKept};
-ghost use Rattle.ts_rules.specs.Rules.{kept_with_dest};
-ghost use Rattle.ts_db.specs.Linking.{any_to, HasMore, HasRules, IsReason};
+ghost use Rattle.ts_rules.specs.Rules.{stored_rule_for};
+ghost use Rattle.ts_db.specs.Linking.{has_rule_to, HasOneMoreRule, HasRules, IsRuleConflict};
 
 use crate::fault::DbFault;
 use std::alloc::{AllocError, Global};
@@ -53,7 +53,7 @@ impl Node {
         grid: Grid,
     ) -> Result<(), AllocError>
         requires { self.old.series.born < 2 ^ 32 - 1 }
-        ensures added { IfOk result (λ _. HasMore dest agg grid self.old self.new) }
+        ensures added { IfOk result (λ _. HasOneMoreRule dest agg grid self.old self.new) }
         ensures kept { IfOk result (λ _. IsKept self.new.series) }
         ensures unchanged { IfErr result (λ _. HasRules self.old.rules.items self.old self.new) }
     {
@@ -66,7 +66,7 @@ impl Node {
 
     // Whether there is a rule to series `dest`.
     pub(crate) fn has_rule(&self, dest: Id) -> bool
-        ensures { result ≡ any_to dest.0 self.now.rules.items }
+        ensures { result ≡ has_rule_to dest.0 self.now.rules.items }
     {
         self.rules.iter().any(|rule| rule.dest.0 == dest.0)
     }
@@ -111,7 +111,7 @@ fn fields(it: &Node) {
 // A rule that has counted no samples yet.
 fn begun(dest: Id, agg: Aggregator, grid: Grid, made: u32) -> Rule
     ensures leads { result.dest ≡ dest }
-    ensures begun { (k : Key) → kept_with_dest k result
+    ensures begun { (k : Key) → stored_rule_for k result
         ≡ record { dest = k; agg = agg; grid = grid; made = made; current = None; running = nothing } }
 {
     Rule {
@@ -125,8 +125,8 @@ fn begun(dest: Id, agg: Aggregator, grid: Grid, made: u32) -> Rule
 }
 
 // Why a rule from `source` to `dest` is not allowed, or `None` if it is.
-pub(crate) fn barred(limits: &Limits, source: &Node, dest: &Node) -> Option<DbFault>
-    ensures { IsReason limits.now source.now dest.now result }
+pub(crate) fn rule_conflict(limits: &Limits, source: &Node, dest: &Node) -> Option<DbFault>
+    ensures { IsRuleConflict limits.now source.now dest.now result }
 {
     if source.source.is_some() {
         Some(DbFault::SourceIsDest)

@@ -4,8 +4,8 @@ ghost use Rattle.std.specs.Option.{option_copied};
 ghost use Rattle.slab.specs.Slab as slab;
 ghost use Rattle.ts_spec.specs.Key.{Key};
 ghost use Rattle.ts_db.specs.Indexed.{IsIndexed};
-ghost use Rattle.ts_db.specs.Store.{has_key, number_of};
-ghost use Rattle.ts_db.specs.Turned.{IsAdded};
+ghost use Rattle.ts_db.specs.Store.{has_key, id_for_key};
+ghost use Rattle.ts_db.specs.NodeChanges.{IsAdded};
 
 use crate::node::Node;
 use slab::Slab;
@@ -75,10 +75,10 @@ impl Nodes {
         key: Word,
         node: Node,
     ) -> Result<Id, AllocError>
-        requires { number_of key keys.old.entries ≡ None }
+        requires { id_for_key key keys.old.entries ≡ None }
         ensures added { IfOk result (λ id. IsAdded self.old self.new id node) }
         ensures numbered { IfOk result (λ id. (q : Key)
-            → number_of q keys.new.entries ≡ cond (has_key key q) (Some id) (number_of q keys.old.entries)) }
+            → id_for_key q keys.new.entries ≡ cond (has_key key q) (Some id) (id_for_key q keys.old.entries)) }
         ensures len { OnOk result (length keys.new.entries ≡ length keys.old.entries + 1) }
         ensures unchanged { OnErr result (self.new.slots ≡ self.old.slots) }
         ensures entries { OnErr result (keys.new.entries ≡ keys.old.entries) }

@@ -3,17 +3,20 @@ ghost use Rattle.std.specs.Prelude.{◌≡◌, ◌≤◌, ◌+◌, ◌++◌, [],
 ghost use Rattle.ts_sample.specs.Steps.{Takes};
 ghost use Rattle.slab.specs.Slab as slab;
 ghost use Rattle.ts_series.specs.History.{list_of};
-ghost use Rattle.ts_rules.specs.Rules.{kept_with_dest, IsChanged};
+ghost use Rattle.ts_rules.specs.Rules.{stored_rule_for, IsChanged};
 ghost use Rattle.ts_rules.specs.Plans.{IsPlanned as IsPlannedSo};
 ghost use Rattle.ts_spec.specs.Key.{Key};
-ghost use Rattle.ts_db.specs.Planning.{changed_by, gone_by, rows_by_work, TakesWork, AllTake, IsSharedOf, AreChanged};
-ghost use Rattle.ts_db.specs.Planning.{for_destination, IsFedBy, AreFedBy, first_full, IsRuleUnplanned, IsUnplanned};
-ghost use Rattle.ts_db.specs.Planning.{share_of, share_at, shares_of, HasRoomForRules, IsEasyOf, IsEasyAt, AreEasyOf};
+ghost use Rattle.ts_db.specs.Planning.{changed_by, gone_by, rows_by_change, HasCountCapacity, AllHaveCountCapacity};
+ghost use Rattle.ts_db.specs.Planning.{IsSharedOf, AreChanged};
+ghost use Rattle.ts_db.specs.Planning.{for_destination, IsDestinationUpdatedBy, AreDestinationsUpdatedBy, first_full};
+ghost use Rattle.ts_db.specs.Planning.{IsRulePlanFault, IsPlanFault};
+ghost use Rattle.ts_db.specs.Planning.{share_of, share_at, shares_of, HasCapacityForRules, IsEasyOf, IsEasyAt};
+ghost use Rattle.ts_db.specs.Planning.{AreEasyOf};
 ghost use Rattle.ts_db.specs.Store.{IsInOrder, HasNode, AreLive};
 
 use crate::fault::DbFault;
+use crate::plan_fault::full_at;
 use crate::store::Store;
-use crate::unplanned::full_at;
 use std::alloc::{AllocError, Global};
 use std::sync::ledger::Ledger;
 use ts_rules::{Rule, RuleFault, RulePlan, SharedBucket, plan_delete, plan_put_shared};
@@ -23,7 +26,7 @@ use ts_series::{Series, SeriesPlan};
 // A change of a source's samples: one sample written, or all samples from one time to another deleted (both
 // inclusive).
 #[derive(Clone, Copy, PartialEq, Eq)]
-pub(crate) enum Work {
+pub(crate) enum SourceChange {
     Write(Sample),
     Delete(u64, u64),
 }
@@ -44,11 +47,11 @@ pub(crate) struct Planned {
 
 impl Planned {
     // No plans yet, with capacity for `count` rules.
-    fn with_room(alloc: Global, count: usize) -> Result<Planned, AllocError>
+    fn with_reserved(alloc: Global, count: usize) -> Result<Planned, AllocError>
         ensures rules { IfOk result (λ planned. planned.rules.items ≡ []) }
         ensures plans { IfOk result (λ planned. planned.plans.items ≡ []) }
         ensures none { IfOk result (λ planned. vec_len planned.plans ≡ 0) }
-        ensures room { IfOk result (HasRoomForRules count) }
+        ensures room { IfOk result (HasCapacityForRules count) }
     {
         Ok(Planned {
             rules: Vec::with_capacity(alloc, count)?,
@@ -58,11 +61,11 @@ impl Planned {
 
     // Adds the plan for one more rule.
     fn push(&mut self, plan: RulePlan)
-        requires room { HasRoomForRules 1 self.old }
+        requires room { HasCapacityForRules 1 self.old }
         ensures rules { self.new.rules.items ≡ self.old.rules.items ++ plan.rule ∷ [] }
         ensures plans { self.new.plans.items ≡ self.old.plans.items ++ for_destination plan ∷ [] }
         ensures one { vec_len self.new.plans ≡ vec_len self.old.plans + 1 }
-        ensures room { (n : ℕ) → HasRoomForRules (suc n) self.old → HasRoomForRules n self.new }
+        ensures room { (n : ℕ) → HasCapacityForRules (suc n) self.old → HasCapacityForRules n self.new }
     {
         let RulePlan { rule, dest } = plan;
         self.plans.push_reserved(DestinationPlan {
@@ -80,31 +83,32 @@ impl Store {
         &self,
         rules: &[Rule],
         source: &Series,
-        work: &Work,
+        work: &SourceChange,
         steps: &mut Steps<L>,
     ) -> Result<Planned, DbFault>
         requires store { IsInOrder self.now }
         requires live { AreLive self.now.nodes rules.now }
-        requires room { AllTake work.now source.now rules.now }
+        requires room { AllHaveCountCapacity work.now source.now rules.now }
         ensures rules { IfOk result
             (λ planned. AreChanged (changed_by work.now source.now) rules.now planned.rules.items) }
-        ensures fed { IfOk result
-            (λ planned. AreFedBy self.now.limits.samples self.now.nodes (rows_by_work work.now source.now)
+        ensures update_dest { IfOk result
+            (λ planned. AreDestinationsUpdatedBy self.now.limits.samples self.now.nodes
+            (rows_by_change work.now source.now)
             (gone_by work.now source.now) rules.now planned.plans.items) }
         ensures fit { IfOk result
-            (λ planned. first_full self.now.limits.samples self.now.nodes (rows_by_work work.now source.now)
+            (λ planned. first_full self.now.limits.samples self.now.nodes (rows_by_change work.now source.now)
             (gone_by work.now source.now) rules.now ≡ None) }
         ensures refused { IfErr result
-            (IsUnplanned
-            (first_full self.now.limits.samples self.now.nodes (rows_by_work work.now source.now)
+            (IsPlanFault
+            (first_full self.now.limits.samples self.now.nodes (rows_by_change work.now source.now)
             (gone_by work.now source.now) rules.now)) }
         ensures steps { Takes steps.old steps.new (shares_of self.now.nodes work.now source.now rules.now) }
         ensures easy { AreEasyOf self.now.limits.samples self.now.nodes work.now source.now rules.now
             → steps.new ≡ steps.old }
     {
-        let mut planned = match Planned::with_room(self.alloc, rules.len()) {
+        let mut planned = match Planned::with_reserved(self.alloc, rules.len()) {
             Ok(planned) => planned,
-            Err(_) => return Err(self.unplanned(rules, source, work, steps)),
+            Err(_) => return Err(self.plan_fault(rules, source, work, steps)),
         };
         let mut shared = SharedBucket::new();
         for rule in rules {
@@ -113,7 +117,7 @@ impl Store {
                 Err(RuleFault::Full) => return Err(full_at(rule)),
                 Err(RuleFault::Memory(_)) => {
                     let left = &rules[planned.plans.len() + 1..];
-                    return Err(self.unplanned(left, source, work, steps));
+                    return Err(self.plan_fault(left, source, work, steps));
                 }
             }
         }
@@ -125,22 +129,23 @@ impl Store {
         &self,
         rule: &Rule,
         source: &Series,
-        work: Work,
+        work: SourceChange,
         steps: &mut Steps<L>,
     ) -> Result<RulePlan, RuleFault>
         requires store { IsInOrder self.now }
         requires live { HasNode self.now.nodes rule.now.dest }
-        requires room { TakesWork work source.now rule.now }
+        requires room { HasCountCapacity work source.now rule.now }
         ensures changed { IfOk result (λ plan. IsChanged (changed_by work source.now) rule.now plan.rule) }
-        ensures fed { IfOk result
-            (λ plan. IsFedBy self.now.limits.samples self.now.nodes (rows_by_work work source.now)
+        ensures update_dest { IfOk result
+            (λ plan. IsDestinationUpdatedBy self.now.limits.samples self.now.nodes (rows_by_change work source.now)
             (gone_by work source.now) rule.now (for_destination plan)) }
         ensures fits { IfOk result
-            (λ _. first_full self.now.limits.samples self.now.nodes (rows_by_work work source.now)
+            (λ _. first_full self.now.limits.samples self.now.nodes (rows_by_change work source.now)
             (gone_by work source.now) (rule.now ∷ []) ≡ None) }
         ensures refused { IfErr result
-            (IsRuleUnplanned rule.now
-            (first_full self.now.limits.samples self.now.nodes (rows_by_work work source.now) (gone_by work source.now)
+            (IsRulePlanFault rule.now
+            (first_full self.now.limits.samples self.now.nodes (rows_by_change work source.now)
+            (gone_by work source.now)
             (rule.now ∷ []))) }
         ensures steps { Takes steps.old steps.new
             (share_at work source.now rule.now (slab.get self.now.nodes rule.now.dest.0)) }
@@ -156,24 +161,25 @@ impl Store {
         &self,
         rule: &Rule,
         source: &Series,
-        work: Work,
+        work: SourceChange,
         shared: &mut SharedBucket,
         steps: &mut Steps<L>,
     ) -> Result<RulePlan, RuleFault>
         requires store { IsInOrder self.now }
         requires live { HasNode self.now.nodes rule.now.dest }
-        requires room { TakesWork work source.now rule.now }
+        requires room { HasCountCapacity work source.now rule.now }
         requires shared { IsSharedOf work source.now shared.old }
         ensures changed { IfOk result (λ plan. IsChanged (changed_by work source.now) rule.now plan.rule) }
-        ensures fed { IfOk result
-            (λ plan. IsFedBy self.now.limits.samples self.now.nodes (rows_by_work work source.now)
+        ensures update_dest { IfOk result
+            (λ plan. IsDestinationUpdatedBy self.now.limits.samples self.now.nodes (rows_by_change work source.now)
             (gone_by work source.now) rule.now (for_destination plan)) }
         ensures fits { IfOk result
-            (λ _. first_full self.now.limits.samples self.now.nodes (rows_by_work work source.now)
+            (λ _. first_full self.now.limits.samples self.now.nodes (rows_by_change work source.now)
             (gone_by work source.now) (rule.now ∷ []) ≡ None) }
         ensures refused { IfErr result
-            (IsRuleUnplanned rule.now
-            (first_full self.now.limits.samples self.now.nodes (rows_by_work work source.now) (gone_by work source.now)
+            (IsRulePlanFault rule.now
+            (first_full self.now.limits.samples self.now.nodes (rows_by_change work source.now)
+            (gone_by work source.now)
             (rule.now ∷ []))) }
         ensures shared { IsSharedOf work source.now shared.new }
         ensures steps { Takes steps.old steps.new
@@ -198,7 +204,7 @@ impl Store {
 // Plans the effects of a change on one rule and its destination.
 fn made_plan<L: Ledger>(
     alloc: Global,
-    work: Work,
+    work: SourceChange,
     rule: &Rule,
     source: &Series,
     dest: &Series,
@@ -206,18 +212,22 @@ fn made_plan<L: Ledger>(
     shared: &mut SharedBucket,
     steps: &mut Steps<L>,
 ) -> Result<RulePlan, RuleFault>
-    requires room { TakesWork work source.now rule.now }
+    requires room { HasCountCapacity work source.now rule.now }
     requires fits { length (list_of dest.now) ≤ limit }
     requires shared { IsSharedOf work source.now shared.old }
     ensures planned { (k : Key) → IsPlannedSo limit (changed_by work source.now)
-        (gone_by work source.now (kept_with_dest k rule.now))
-        (rows_by_work work source.now dest.now.born (kept_with_dest k rule.now)) rule.now dest.now result }
+        (gone_by work source.now (stored_rule_for k rule.now))
+        (rows_by_change work source.now dest.now.born (stored_rule_for k rule.now)) rule.now dest.now result }
     ensures shared { IsSharedOf work source.now shared.new }
     ensures steps { Takes steps.old steps.new (share_of work source.now rule.now dest.now) }
     ensures easy { IsEasyOf limit work source.now rule.now dest.now → steps.new ≡ steps.old }
 {
     match work {
-        Work::Write(wrote) => plan_put_shared(rule, source, &wrote, dest, limit, shared, steps),
-        Work::Delete(from, to) => plan_delete(alloc, rule, source, from, to, dest, limit, steps),
+        SourceChange::Write(wrote) => plan_put_shared(
+            rule, source, &wrote, dest, limit, shared, steps,
+        ),
+        SourceChange::Delete(from, to) => plan_delete(
+            alloc, rule, source, from, to, dest, limit, steps,
+        ),
     }
 }

@@ -1,18 +1,19 @@
 // Creates and deletes rules.
 ghost use Rattle.std.specs.Prelude.{◌≡◌, Some, IfErr, option_map, IfOk};
 ghost use Rattle.slab.specs.Slab as slab;
-ghost use Rattle.ts_spec.specs.KeptStep.{kept_create_rule, kept_delete_rule};
-ghost use Rattle.ts_db.specs.Answering.{KeptDone, IsElsewhere};
+ghost use Rattle.ts_spec.specs.StoredStep.{stored_create_rule, stored_delete_rule};
+ghost use Rattle.ts_db.specs.Answering.{StoredDone, IsElsewhere};
 ghost use Rattle.ts_db.specs.Faults.{IsRefusal};
 ghost use Rattle.ts_db.specs.declared.node.Node.{Node as TheNode};
-ghost use Rattle.ts_db.specs.Linking.{any_to, IsReason, kept_unruled, kept_ruleless, kept_sourced, keep_freed};
-ghost use Rattle.ts_db.specs.Linking.{IsKeptBy, IsUnspent};
-ghost use Rattle.ts_db.specs.Store.{stock_of, IsInOrder, IsDb, HasNode, rules_by, key_in, contents_of, AreLive};
+ghost use Rattle.ts_db.specs.Linking.{has_rule_to, IsRuleConflict, stored_without_rule_to, stored_ruleless};
+ghost use Rattle.ts_db.specs.Linking.{stored_with_source, keys_unlinked};
+ghost use Rattle.ts_db.specs.Linking.{IsStoredChange, CanMakeRule};
+ghost use Rattle.ts_db.specs.Store.{db_view_of, IsInOrder, IsDb, HasNode, rules_by, key_in, contents_of, AreLive};
 ghost use Rattle.ts_db.specs.Store.{IsLiveSource};
-ghost use Rattle.ts_spec.specs.Keeping.{kept_with_rule};
+ghost use Rattle.ts_spec.specs.StoredKeys.{stored_with_rule};
 
 use crate::fault::DbFault;
-use crate::node::barred;
+use crate::node::rule_conflict;
 use crate::store::Store;
 use std::alloc::AllocError;
 use ts_bucket::Grid;
@@ -31,9 +32,9 @@ impl Store {
         grid: Grid,
     ) -> Result<(), DbFault>
         requires { IsDb self.old }
-        ensures ruled { KeptDone (stock_of self.old)
-            (kept_create_rule self.old.limits (stock_of self.old).keys source.now dest.now agg grid) result
-            (stock_of self.new) }
+        ensures ruled { StoredDone (db_view_of self.old)
+            (stored_create_rule self.old.limits (db_view_of self.old).keys source.now dest.now agg grid) result
+            (db_view_of self.new) }
         ensures store { IsInOrder self.new }
     {
         if source == dest {
@@ -45,7 +46,7 @@ impl Store {
         let Some(to) = self.keys.get(dest).copied() else {
             return Err(DbFault::NoKey);
         };
-        if let Some(fault) = self.barred(from, to) {
+        if let Some(fault) = self.rule_conflict(from, to) {
             return Err(fault);
         }
         match self.add_rule(from, to, agg, grid) {
@@ -57,20 +58,21 @@ impl Store {
     }
 
     // Why a rule from `id` to `dest` is not allowed, or `None` if it is.
-    fn barred(&self, id: Id, dest: Id) -> Option<DbFault>
+    fn rule_conflict(&self, id: Id, dest: Id) -> Option<DbFault>
         requires live { HasNode self.now.nodes id }
         requires dest { HasNode self.now.nodes dest }
-        ensures barred { (n d : TheNode) → slab.get self.now.nodes id.0 ≡ Some n
-            → slab.get self.now.nodes dest.0 ≡ Some d → IsReason self.now.limits n d result }
+        ensures rule_conflict { (n d : TheNode) → slab.get self.now.nodes id.0 ≡ Some n
+            → slab.get self.now.nodes dest.0 ≡ Some d → IsRuleConflict self.now.limits n d result }
     {
-        barred(&self.limits, self.nodes.node(id), self.nodes.node(dest))
+        rule_conflict(&self.limits, self.nodes.node(id), self.nodes.node(dest))
     }
 
     // Deletes the rule between two keys. Allocates nothing.
     pub(crate) fn delete_rule(&mut self, source: &Word, dest: &Word) -> Result<(), DbFault>
         requires { IsDb self.old }
-        ensures ended { KeptDone (stock_of self.old) (kept_delete_rule (stock_of self.old).keys source.now dest.now)
-            result (stock_of self.new) }
+        ensures ended { StoredDone (db_view_of self.old)
+            (stored_delete_rule (db_view_of self.old).keys source.now dest.now)
+            result (db_view_of self.new) }
         ensures refused { IfErr result IsRefusal }
         ensures store { IsInOrder self.new }
     {
@@ -91,7 +93,7 @@ impl Store {
     // Whether there is a rule from `id` to `dest`.
     fn has_rule(&self, id: Id, dest: Id) -> bool
         requires { HasNode self.now.nodes id }
-        ensures { (n : TheNode) → slab.get self.now.nodes id.0 ≡ Some n → result ≡ any_to dest.0 n.rules.items }
+        ensures { (n : TheNode) → slab.get self.now.nodes id.0 ≡ Some n → result ≡ has_rule_to dest.0 n.rules.items }
     {
         self.nodes.node(id).has_rule(dest)
     }
@@ -107,11 +109,11 @@ impl Store {
         requires store { IsInOrder self.old }
         requires live { HasNode self.old.nodes id }
         requires dest { HasNode self.old.nodes dest }
-        requires born { (n : TheNode) → slab.get self.old.nodes id.0 ≡ Some n → IsUnspent self.old.limits n }
+        requires born { (n : TheNode) → slab.get self.old.nodes id.0 ≡ Some n → CanMakeRule self.old.limits n }
         ensures store { IsInOrder self.new }
         ensures added { IfOk result
-            (λ _. IsKeptBy self.old id (kept_with_rule (key_in self.old.nodes dest) agg grid) self.new) }
-        ensures unchanged { IfErr result (λ _. stock_of self.new ≡ stock_of self.old) }
+            (λ _. IsStoredChange self.old id (stored_with_rule (key_in self.old.nodes dest) agg grid) self.new) }
+        ensures unchanged { IfErr result (λ _. db_view_of self.new ≡ db_view_of self.old) }
         ensures elsewhere { IsElsewhere self.old self.new id }
     {
         grid.known();
@@ -124,7 +126,7 @@ impl Store {
         requires live { HasNode self.old.nodes id }
         requires dest { HasNode self.old.nodes dest }
         ensures store { IsInOrder self.new }
-        ensures removed { IsKeptBy self.old id (kept_unruled (key_in self.old.nodes dest)) self.new }
+        ensures removed { IsStoredChange self.old id (stored_without_rule_to (key_in self.old.nodes dest)) self.new }
         ensures elsewhere { IsElsewhere self.old self.new id }
     {
         self.nodes.remove_rule(id, dest);
@@ -136,7 +138,7 @@ impl Store {
         requires live { HasNode self.old.nodes id }
         ensures rules { (n : TheNode) → slab.get self.old.nodes id.0 ≡ Some n → result.items ≡ n.rules.items }
         ensures store { IsInOrder self.new }
-        ensures taken { IsKeptBy self.old id kept_ruleless self.new }
+        ensures taken { IsStoredChange self.old id stored_ruleless self.new }
         ensures elsewhere { IsElsewhere self.old self.new id }
     {
         self.nodes.take_rules(id, self.alloc)
@@ -148,7 +150,8 @@ impl Store {
         requires live { HasNode self.old.nodes id }
         requires source { IsLiveSource self.old.nodes source }
         ensures store { IsInOrder self.new }
-        ensures set { IsKeptBy self.old id (kept_sourced (option_map (key_in self.old.nodes) source)) self.new }
+        ensures set { IsStoredChange self.old id (stored_with_source (option_map (key_in self.old.nodes) source))
+            self.new }
         ensures elsewhere { IsElsewhere self.old self.new id }
     {
         self.nodes.set_source(id, source);
@@ -160,7 +163,7 @@ impl Store {
         requires live { AreLive self.old.nodes rules.items }
         ensures store { IsInOrder self.new }
         ensures freed { contents_of self.new
-            ≡ record (contents_of self.old) { keys = keep_freed (rules_by (key_in self.old.nodes) rules.items) (stock_of self.old).keys } }
+            ≡ record (contents_of self.old) { keys = keys_unlinked (rules_by (key_in self.old.nodes) rules.items) (db_view_of self.old).keys } }
     {
         for rule in rules {
             self.set_source(rule.dest, None);

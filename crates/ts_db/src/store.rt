@@ -8,11 +8,12 @@ ghost use Rattle.std.specs.Ordering.{nat_cmp};
 ghost use Rattle.ts_spec.specs.Keyed.{get, count_keys};
 ghost use Rattle.ts_index.specs.Numbers.{AreInOrder};
 ghost use Rattle.ts_db.specs.Indexed.{IsIndexed};
-ghost use Rattle.ts_db.specs.Store.{stock_of, number_of, IsInOrder};
+ghost use Rattle.ts_db.specs.Store.{db_view_of, id_for_key, IsInOrder};
 ghost use Rattle.ts_db.specs.Answering.{IsReady, IsApplied, IsElsewhere};
 ghost use Rattle.ts_rules.specs.declared.rule.Rule.{Rule as TheRule};
-ghost use Rattle.ts_db.specs.Feeding.{Rows, Gone};
-ghost use Rattle.ts_db.specs.Planning.{AreFedBy, AreDistinct, AreDestinationPlans, IsFed};
+ghost use Rattle.ts_db.specs.DestinationUpdates.{Rows, RemovedTimes};
+ghost use Rattle.ts_db.specs.Planning.{AreDestinationsUpdatedBy, AreDistinct, AreDestinationPlans};
+ghost use Rattle.ts_db.specs.Planning.{AreDestinationsUpdated};
 
 use crate::nodes::Nodes;
 use crate::planning::DestinationPlan;
@@ -52,7 +53,7 @@ impl Store {
         ensures indexed { IsIndexed self.now.nodes result.now }
         ensures order { AreInOrder result.now }
         ensures sorted { IsStrictlySortedBy (slice_cmp nat_cmp) (keys_of self.now.keys.entries) }
-        ensures found { All (λ e. number_of e.0 self.now.keys.entries ≡ Some e.1) self.now.keys.entries }
+        ensures found { All (λ e. id_for_key e.0 self.now.keys.entries ≡ Some e.1) self.now.keys.entries }
     {
         let _keys = self.keys.iter();
         let index = self.nodes.index();
@@ -63,7 +64,7 @@ impl Store {
     // Whether the key exists.
     pub(crate) fn has(&self, key: &Word) -> bool
         requires { IsInOrder self.now }
-        ensures { result ≡ is_some (get key.now (stock_of self.now).keys) }
+        ensures { result ≡ is_some (get key.now (db_view_of self.now).keys) }
     {
         self.keys.contains_key(key)
     }
@@ -78,19 +79,19 @@ impl Store {
     // Whether the store holds as many keys as its limits allow.
     pub(crate) fn is_full(&self) -> bool
         requires { IsInOrder self.now }
-        ensures { result ≡ nat_le self.now.limits.keys (count_keys (stock_of self.now).keys) }
+        ensures { result ≡ nat_le self.now.limits.keys (count_keys (db_view_of self.now).keys) }
     {
         self.limits.keys as usize <= self.keys.len()
     }
 
     // Commits the plans for the destinations of rules. Can't fail and allocates nothing.
-    pub(crate) fn feed(&mut self, plans: Vec<DestinationPlan>)
+    pub(crate) fn update_destinations(&mut self, plans: Vec<DestinationPlan>)
         requires store { IsInOrder self.old }
         requires planned { AreDestinationPlans self.old plans.items }
         ensures store { IsInOrder self.new }
-        ensures fed { (rows : Rows) (gone : Gone) (rs : List TheRule)
-            → AreFedBy self.old.limits.samples self.old.nodes rows gone rs plans.items → AreDistinct rs
-            → IsFed self.old rows gone rs self.new }
+        ensures update_dest { (rows : Rows) (gone : RemovedTimes) (rs : List TheRule)
+            → AreDestinationsUpdatedBy self.old.limits.samples self.old.nodes rows gone rs plans.items → AreDistinct rs
+            → AreDestinationsUpdated self.old rows gone rs self.new }
     {
         for plan in plans {
             let DestinationPlan { dest, change } = plan;

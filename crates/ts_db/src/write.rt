@@ -3,22 +3,22 @@ ghost use Rattle.std.specs.Prelude.{◌≡◌, ◌≤◌, Some, option_map, IfOk
 ghost use Rattle.ts_spec.specs.declared.series.Merge.TheVariants.{By};
 ghost use Rattle.ts_spec.specs.Sample.{MAX_TIME};
 ghost use Rattle.ts_spec.specs.Key.{Key};
-ghost use Rattle.ts_spec.specs.KeptStep.{kept_add, kept_write_merged};
+ghost use Rattle.ts_spec.specs.StoredStep.{stored_add, stored_write_merged};
 ghost use Rattle.ts_sample.specs.Steps.{Takes};
 ghost use Rattle.ts_labels.specs.Spec.{spec_of};
 ghost use Rattle.ts_series.specs.Put.{met};
 ghost use Rattle.ts_db.specs.declared.node.Node.{Node as TheNode};
-ghost use Rattle.ts_db.specs.Held.{IsOwn};
-ghost use Rattle.ts_db.specs.Store.{key_in, stock_of, number_of, IsInOrder, IsDb, IsThere, Holds};
-ghost use Rattle.ts_db.specs.Answering.{KeptNumber};
-ghost use Rattle.ts_db.specs.PutBy.{kept_merge};
+ghost use Rattle.ts_db.specs.DbState.{NamesFullSeries};
+ghost use Rattle.ts_db.specs.Store.{key_in, db_view_of, id_for_key, IsInOrder, IsDb, IsThere, Holds};
+ghost use Rattle.ts_db.specs.Answering.{StoredCount};
+ghost use Rattle.ts_db.specs.PutBy.{stored_merge};
 ghost use Rattle.ts_db.specs.Bounds.{write_steps, IsEasyAppend, IsIgnored};
 ghost use Rattle.ts_db.specs.Writes.{ignored_by};
 
 use crate::fault::{DbFault, fault_at};
-use crate::growing::stays_open;
 use crate::node::Node;
-use crate::planning::Work;
+use crate::open_append::stays_open;
+use crate::planning::SourceChange;
 use crate::store::Store;
 use std::sync::ledger::Ledger;
 use ts_labels::Spec;
@@ -40,18 +40,18 @@ impl Store {
     ) -> Result<u64, DbFault>
         requires time { time ≤ MAX_TIME }
         requires db { IsDb self.old }
-        ensures added { KeptNumber (stock_of self.old)
-            (kept_add self.old.limits (stock_of self.old).keys key time value on (spec_of spec)) result
-            (stock_of self.new) }
+        ensures added { StoredCount (db_view_of self.old)
+            (stored_add self.old.limits (db_view_of self.old).keys key time value on (spec_of spec)) result
+            (db_view_of self.new) }
         ensures bounded { IfOk result (λ t. t ≤ MAX_TIME) }
-        ensures own { IfErr result (IsOwn (stock_of self.old) key) }
+        ensures own { IfErr result (NamesFullSeries (db_view_of self.old) key) }
         ensures store { IsInOrder self.new }
-        ensures steps { Takes steps.old steps.new (write_steps (stock_of self.old) key time) }
-        ensures easy { IsEasyAppend (stock_of self.old) key time → steps.new ≡ steps.old }
-        ensures spared { IsIgnored (stock_of self.old) key time value → steps.new ≡ steps.old }
+        ensures steps { Takes steps.old steps.new (write_steps (db_view_of self.old) key time) }
+        ensures easy { IsEasyAppend (db_view_of self.old) key time → steps.new ≡ steps.old }
+        ensures spared { IsIgnored (db_view_of self.old) key time value → steps.new ≡ steps.old }
     {
         let Some(id) = self.keys.get(&key).copied() else {
-            return self.begin(key, spec, time, value, steps);
+            return self.create_with_sample(key, spec, time, value, steps);
         };
         self.write(id, merge_by(on), time, value, steps)
     }
@@ -70,18 +70,19 @@ impl Store {
         requires time { time ≤ MAX_TIME }
         requires db { IsDb self.old }
         requires there { IsThere self.old id }
-        ensures written { (key : Key) → number_of key self.old.keys.entries ≡ Some id
-            → KeptNumber (stock_of self.old) (kept_merge self.old.limits (stock_of self.old).keys key time value how)
-            result (stock_of self.new) }
+        ensures written { (key : Key) → id_for_key key self.old.keys.entries ≡ Some id
+            → StoredCount (db_view_of self.old)
+            (stored_merge self.old.limits (db_view_of self.old).keys key time value how)
+            result (db_view_of self.new) }
         ensures bounded { IfOk result (λ t. t ≤ MAX_TIME) }
-        ensures own { (key : Key) → number_of key self.old.keys.entries ≡ Some id
-            → IfErr result (IsOwn (stock_of self.old) key) }
+        ensures own { (key : Key) → id_for_key key self.old.keys.entries ≡ Some id
+            → IfErr result (NamesFullSeries (db_view_of self.old) key) }
         ensures store { IsInOrder self.new }
-        ensures steps { Takes steps.old steps.new (write_steps (stock_of self.old) (key_in self.old.nodes id) time) }
-        ensures easy { (key : Key) → number_of key self.old.keys.entries ≡ Some id
-            → IsEasyAppend (stock_of self.old) key time → steps.new ≡ steps.old }
-        ensures spared { (key : Key) → number_of key self.old.keys.entries ≡ Some id
-            → IsIgnored (stock_of self.old) key time value → steps.new ≡ steps.old }
+        ensures steps { Takes steps.old steps.new (write_steps (db_view_of self.old) (key_in self.old.nodes id) time) }
+        ensures easy { (key : Key) → id_for_key key self.old.keys.entries ≡ Some id
+            → IsEasyAppend (db_view_of self.old) key time → steps.new ≡ steps.old }
+        ensures spared { (key : Key) → id_for_key key self.old.keys.entries ≡ Some id
+            → IsIgnored (db_view_of self.old) key time value → steps.new ≡ steps.old }
     {
         let node = self.nodes.node(id);
         if let Some(last) = ignored(node, time, value) {
@@ -90,7 +91,7 @@ impl Store {
         if let Some(plan) = node.series.plan_append(time, value, self.limits.samples) {
             let wrote = plan.sample();
             if stays_open(&node.rules, &node.series, &wrote) {
-                self.grow(id, plan, &wrote);
+                self.append_open(id, plan, &wrote);
                 return Ok(time);
             }
         }
@@ -112,16 +113,17 @@ impl Store {
         requires db { IsDb self.old }
         requires there { IsThere self.old id }
         ensures written { (key : Key) (n : TheNode) → Holds self.old key id n
-            → KeptNumber (stock_of self.old)
-            (kept_write_merged self.old.limits (stock_of self.old).keys key time (met how time value n.series)) result
-            (stock_of self.new) }
+            → StoredCount (db_view_of self.old)
+            (stored_write_merged self.old.limits (db_view_of self.old).keys key time (met how time value n.series))
+            result
+            (db_view_of self.new) }
         ensures time { IfOk result (λ t. t ≡ time) }
-        ensures own { (key : Key) → number_of key self.old.keys.entries ≡ Some id
-            → IfErr result (IsOwn (stock_of self.old) key) }
+        ensures own { (key : Key) → id_for_key key self.old.keys.entries ≡ Some id
+            → IfErr result (NamesFullSeries (db_view_of self.old) key) }
         ensures store { IsInOrder self.new }
-        ensures steps { Takes steps.old steps.new (write_steps (stock_of self.old) (key_in self.old.nodes id) time) }
-        ensures easy { (key : Key) → number_of key self.old.keys.entries ≡ Some id
-            → IsEasyAppend (stock_of self.old) key time → steps.new ≡ steps.old }
+        ensures steps { Takes steps.old steps.new (write_steps (db_view_of self.old) (key_in self.old.nodes id) time) }
+        ensures easy { (key : Key) → id_for_key key self.old.keys.entries ≡ Some id
+            → IsEasyAppend (db_view_of self.old) key time → steps.new ≡ steps.old }
     {
         let node = self.nodes.node(id);
         let limit = self.limits.samples;
@@ -131,20 +133,25 @@ impl Store {
                 let Some(lost) = fault.sample() else {
                     return Err(fault_at(id, fault));
                 };
-                return Err(self.unplanned(&node.rules, &node.series, &Work::Write(lost), steps));
+                return Err(self.plan_fault(
+                    &node.rules,
+                    &node.series,
+                    &SourceChange::Write(lost),
+                    steps,
+                ));
             }
         };
         let Some(wrote) = plan.wrote() else {
             drop(plan);
             return Ok(time);
         };
-        let work = Work::Write(wrote);
+        let work = SourceChange::Write(wrote);
         let planned = match self.plan_rules(&node.rules, &node.series, &work, steps) {
             Ok(planned) => planned,
             Err(fault) => return Err(fault),
         };
         self.apply(id, plan, Some(planned.rules));
-        self.feed(planned.plans);
+        self.update_destinations(planned.plans);
         Ok(time)
     }
 }

@@ -6,7 +6,7 @@ ghost use Rattle.ts_decimal.specs.Leading.{Leads};
 use crate::lexer::split_digit;
 
 /// Digits are stored while the number is below this. That is at most 30 digits, more than the largest value has.
-const KEPT: u128 = 100_000_000_000_000_000_000_000_000_000;
+const DROP_THRESHOLD: u128 = 100_000_000_000_000_000_000_000_000_000;
 
 /// A whole number: its leading digits, and how many digits were dropped after them.
 #[derive(Clone, Copy)]
@@ -34,7 +34,7 @@ impl Leading {
         ensures value { (n : ℕ) → Leads self.first self.dropped n → Leads result.first result.dropped (n * 10 + digit) }
         ensures bound { result.dropped ≤ self.dropped + 1 }
     {
-        if self.first < KEPT {
+        if self.first < DROP_THRESHOLD {
             Leading {
                 first: 10 * self.first + u128::from(digit),
                 dropped: self.dropped,
@@ -48,10 +48,11 @@ impl Leading {
     }
 
     /// Reads the leading digits of `text` and returns the rest of it.
-    pub fn take_digits<'a>(&mut self, text: &'a [u8]) -> &'a [u8]
+    pub fn read_digits<'a>(&mut self, text: &'a [u8]) -> &'a [u8]
         requires room { self.old.dropped + length text.now ≤ 1000 }
         ensures rest { result.now ≡ after_digits text.now }
-        ensures value { (n : ℕ) → Leads self.old.first self.old.dropped n → Leads self.new.first self.new.dropped (number_after n (digits text.now)) }
+        ensures value { (n : ℕ) → Leads self.old.first self.old.dropped n
+            → Leads self.new.first self.new.dropped (number_after n (digits text.now)) }
         ensures bound { self.new.dropped + length result.now ≤ self.old.dropped + length text.now }
         ensures count { length result.now + length (digits text.now) ≡ length text.now }
     {
@@ -67,17 +68,18 @@ impl Leading {
 
     /// Reads a point and the digits after it, if `text` starts with a point. Returns the number of digits and the
     /// rest of the text.
-    pub fn take_fraction<'a>(&mut self, text: &'a [u8]) -> (usize, &'a [u8])
+    pub fn read_fraction<'a>(&mut self, text: &'a [u8]) -> (usize, &'a [u8])
         requires room { self.old.dropped + length text.now ≤ 1000 }
         ensures places { result.0 ≡ length (fraction text.now) }
         ensures rest { result.1.now ≡ after_fraction text.now }
-        ensures value { (n : ℕ) → Leads self.old.first self.old.dropped n → Leads self.new.first self.new.dropped (number_after n (fraction text.now)) }
+        ensures value { (n : ℕ) → Leads self.old.first self.old.dropped n
+            → Leads self.new.first self.new.dropped (number_after n (fraction text.now)) }
         ensures bound { self.new.dropped ≤ self.old.dropped + length text.now }
         ensures few { result.0 ≤ length text.now }
     {
         match text {
             [b'.', part @ ..] => {
-                let rest = self.take_digits(part);
+                let rest = self.read_digits(part);
                 (part.len() - rest.len(), rest)
             }
             _ => (0, text),

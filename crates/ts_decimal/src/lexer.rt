@@ -47,7 +47,8 @@ impl Model for Scale {
 
 /// Parses a text of one to three digits. Any other text is `None`.
 fn short_number(text: &[u8]) -> Option<usize>
-    ensures value { MatchOption result (is_short text.now ≡ false) (λ n. (is_short text.now ≡ true) × (n ≡ number_after 0 text.now)) }
+    ensures value { MatchOption result (is_short text.now ≡ false) (λ n. (is_short text.now ≡ true)
+        × (n ≡ number_after 0 text.now)) }
     ensures bound { IfSome result (λ n. n < 1000) }
 {
     if text.is_empty() || text.len() > 3 {

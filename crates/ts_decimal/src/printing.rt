@@ -30,7 +30,7 @@ fn split_magnitude(magnitude: u128) -> (u64, u32)
 
 /// Writes `-` before offset `place` if `negative`. Returns the offset where the text starts.
 #[inline]
-fn put_sign(negative: bool, place: usize, room: &mut [u8]) -> usize
+fn write_sign(negative: bool, place: usize, room: &mut [u8]) -> usize
     requires from { 1 ≤ place }
     requires to { place ≤ length room.old }
     ensures text { drop result room.new ≡ sign_text negative ++ drop place room.old }
@@ -47,7 +47,7 @@ fn put_sign(negative: bool, place: usize, room: &mut [u8]) -> usize
 
 /// Writes two digits at offset `place`.
 #[inline]
-fn put_two(number: u32, room: &mut [u8], place: usize)
+fn write_two_digits(number: u32, room: &mut [u8], place: usize)
     requires small { number < 100 }
     requires fits { place + 2 ≤ length room.old }
     ensures text { take (place + 2) room.new ≡ take place room.old ++ (48 + number / 10) ∷ (48 + number % 10) ∷ [] }
@@ -58,14 +58,14 @@ fn put_two(number: u32, room: &mut [u8], place: usize)
 
 /// Writes up to two decimal places at offset `place`, without trailing zeros. Returns the offset after them.
 #[inline]
-fn put_last_two(number: u32, room: &mut [u8], place: usize) -> usize
+fn write_last_two(number: u32, room: &mut [u8], place: usize) -> usize
     requires small { number < 100 }
     requires fits { place + 2 ≤ length room.old }
     ensures text { take result room.new ≡ take place room.old ++ places 2 number }
     ensures from { place ≤ result }
     ensures to { result ≤ place + 2 }
 {
-    put_two(number, room, place);
+    write_two_digits(number, room, place);
     if number % 10 != 0 {
         return place + 2;
     }
@@ -74,7 +74,7 @@ fn put_last_two(number: u32, room: &mut [u8], place: usize) -> usize
 
 /// Writes up to four decimal places at offset `place`, without trailing zeros. Returns the offset after them.
 #[inline]
-fn put_last_four(number: u32, room: &mut [u8], place: usize) -> usize
+fn write_last_four(number: u32, room: &mut [u8], place: usize) -> usize
     requires small { number < 10000 }
     requires fits { place + 4 ≤ length room.old }
     ensures text { take result room.new ≡ take place room.old ++ places 4 number }
@@ -83,15 +83,15 @@ fn put_last_four(number: u32, room: &mut [u8], place: usize) -> usize
 {
     let rest = number % 100;
     if rest == 0 {
-        return put_last_two(number / 100, room, place);
+        return write_last_two(number / 100, room, place);
     }
-    put_two(number / 100, room, place);
-    put_last_two(rest, room, place + 2)
+    write_two_digits(number / 100, room, place);
+    write_last_two(rest, room, place + 2)
 }
 
 /// Writes the point and the fraction, unless the fraction is 0. Returns the offset after the last digit.
 #[inline]
-fn put_fraction(millionths: u32, room: &mut [u8], point: usize) -> usize
+fn write_fraction(millionths: u32, room: &mut [u8], point: usize) -> usize
     requires small { millionths < 10 ^ 6 }
     requires fits { point + 7 ≤ length room.old }
     ensures text { take result room.new ≡ take point room.old ++ shown_fraction millionths }
@@ -104,10 +104,10 @@ fn put_fraction(millionths: u32, room: &mut [u8], point: usize) -> usize
     room[point] = b'.';
     let rest = millionths % 10_000;
     if rest == 0 {
-        return put_last_two(millionths / 10_000, room, point + 1);
+        return write_last_two(millionths / 10_000, room, point + 1);
     }
-    put_two(millionths / 10_000, room, point + 1);
-    put_last_four(rest, room, point + 3)
+    write_two_digits(millionths / 10_000, room, point + 1);
+    write_last_four(rest, room, point + 3)
 }
 
 /// Writes the value's text so that its whole part ends at offset `point`. Returns the range of the text.
@@ -123,9 +123,9 @@ pub fn put_value(value: Units, room: &mut [u8], point: usize) -> Range<usize>
 {
     let number = value.get();
     let (whole, millionths) = split_magnitude(number.unsigned_abs());
-    let end = put_fraction(millionths, room, point);
+    let end = write_fraction(millionths, room, point);
     let place = write_digits(whole, room, point);
-    let start = put_sign(number < 0, place, room);
+    let start = write_sign(number < 0, place, room);
     start..end
 }
 

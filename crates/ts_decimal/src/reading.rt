@@ -12,16 +12,16 @@ use ts_sample::Units;
 use ts_spec::ValueFault;
 
 /// The length limit of a value's text, in bytes.
-const MOST_BYTES: usize = 64;
+const MAX_TEXT_BYTES: usize = 64;
 
 /// The decimal places of a value.
 pub(crate) const PLACES: usize = 6;
 
 /// Raising even the digit 1 by more places than this exceeds the largest value.
-const MOST_RAISED: usize = 24;
+const MAX_RAISE: usize = 24;
 
 /// Lowering the stored digits by more places than this gives less than a half.
-const MOST_LOWERED: usize = 30;
+const MAX_LOWER: usize = 30;
 
 /// A decimal without its sign: digits * 10^up / 10^down.
 #[derive(Clone, Copy)]
@@ -42,9 +42,9 @@ impl Decimal {
         ensures kept { IfSome result (λ d. d.digits.first < 10 ^ 30) }
     {
         let mut digits = Leading::new();
-        let after_whole = digits.take_digits(text);
+        let after_whole = digits.read_digits(text);
         let whole = text.len() - after_whole.len();
-        let (places, rest) = digits.take_fraction(after_whole);
+        let (places, rest) = digits.read_fraction(after_whole);
         let scale = read_exponent(rest)?;
         if whole + places == 0 {
             return None;
@@ -83,7 +83,7 @@ fn raise(first: u128, k: usize) -> Option<u128>
     if first == 0 {
         return Some(0);
     }
-    if k > MOST_RAISED || first > power_of_ten(MOST_RAISED - k) {
+    if k > MAX_RAISE || first > power_of_ten(MAX_RAISE - k) {
         return None;
     }
     Some(first * power_of_ten(k))
@@ -96,7 +96,7 @@ fn lower(first: u128, k: usize) -> u128
     ensures value { result ≡ (first + 10 ^ k / 2) / 10 ^ k }
     ensures small { result ≤ 10 ^ 30 }
 {
-    if k > MOST_LOWERED {
+    if k > MAX_LOWER {
         return 0;
     }
     let power = power_of_ten(k);
@@ -127,7 +127,7 @@ fn in_range(millionths: i128) -> Result<Units, ValueFault>
 pub fn parse(text: &[u8]) -> Result<Units, ValueFault>
     ensures { result ≡ value text.now }
 {
-    if text.is_empty() || text.len() > MOST_BYTES {
+    if text.is_empty() || text.len() > MAX_TEXT_BYTES {
         return Err(ValueFault::NotANumber);
     }
     let (negative, body) = split_sign(text);

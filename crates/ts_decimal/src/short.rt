@@ -8,11 +8,11 @@ use crate::powers::power_of_ten;
 use crate::reading::PLACES;
 
 /// The longest text that is parsed in 64 bits.
-const FEW: usize = 12;
+const MAX_SHORT_BYTES: usize = 12;
 
 /// Appends the leading digits of `text` to `number`. Returns the result and the rest of the text.
 #[inline]
-fn spelled_after(number: u64, text: &[u8]) -> (u64, &[u8])
+fn accumulate_digits(number: u64, text: &[u8]) -> (u64, &[u8])
     requires { (number + 1) * 10 ^ length text.now ≤ 10 ^ 12 }
     ensures number { result.0 ≡ number_after number (digits text.now) }
     ensures rest { result.1.now ≡ after_digits text.now }
@@ -35,10 +35,10 @@ pub fn short_magnitude(text: &[u8]) -> Option<u64>
     ensures value { IfSome result (λ m. (negative : Bool) → IsRounded negative m (decimal_of negative text.now)) }
     ensures small { IfSome result (λ m. m ≤ 10 ^ 18) }
 {
-    if text.len() > FEW {
+    if text.len() > MAX_SHORT_BYTES {
         return None;
     }
-    let (whole, rest) = spelled_after(0, text);
+    let (whole, rest) = accumulate_digits(0, text);
     if rest.is_empty() {
         if text.is_empty() {
             return None;
@@ -51,7 +51,7 @@ pub fn short_magnitude(text: &[u8]) -> Option<u64>
     if *point != b'.' {
         return None;
     }
-    let (number, after) = spelled_after(whole, part);
+    let (number, after) = accumulate_digits(whole, part);
     if !after.is_empty() {
         return None;
     }

@@ -5,7 +5,7 @@ use Rattle.std.proofs.Common.{◌≡◌, ◌≢◌, ◌⊎◌, inl, inr, Bool, t
 use Rattle.std.proofs.lemmas.Bool.{le-leb, lt-leb}
 use Rattle.std.proofs.lemmas.List.{take_all}
 use Rattle.ts_io.specs.Causes.{Rose}
-use Rattle.ts_db.specs.Held.{Held}
+use Rattle.ts_db.specs.DbState.{DbState}
 use Rattle.ts_mux.specs.Capture as capture
 use Rattle.ts_mux.specs.Capture.{Capture}
 use Rattle.ts_mux.specs.Framing.{ended_at}
@@ -13,19 +13,19 @@ use Rattle.ts_mux.specs.Order.{Item}
 use Rattle.ts_words.specs.declared.mode.Mode.TheVariants as mode
 use Rattle.ts_words.specs.declared.status.Status.{Status}
 use Rattle.ts_words.specs.declared.status.Status.TheVariants as status
-use Rattle.ts_execution.specs.Turn.{World, plain}
-use Rattle.ts_engine.specs.declared.replayed.CaptureEnd.{CaptureEnd}
-use Rattle.ts_engine.specs.declared.replayed.CaptureEnd.TheVariants as end
+use Rattle.ts_execution.specs.Handling.{World, plain}
+use Rattle.ts_engine.specs.declared.capture_run.CaptureEnd.{CaptureEnd}
+use Rattle.ts_engine.specs.declared.capture_run.CaptureEnd.TheVariants as end
 use Rattle.ts_engine.specs.Captured.{items, ending, SomeReplied, FrameCut, EndReplied, Writes, Captured, status_of, place_of, status_by, status_captured}
-use Rattle.ts_engine.specs.Headline.{Exchange, Seen, exchange_of}
-use Rattle.ts_engine.specs.Replaying.{Spot, beginning, Went, WentSome, LastFrame, IsUpToDate, Ends, is_of_input, Replayed, HasCauses}
+use Rattle.ts_engine.specs.Headline.{Exchange, RunView, exchange_of}
+use Rattle.ts_engine.specs.CaptureSteps.{Progress, beginning, HandledAll, HandledSome, LastFrame, IsUpToDate, Ends, is_of_input, CaptureRun, HasCauses}
 use Rattle.ts_engine.specs.Replies.{IsReply, Replies}
 use Rattle.ts_engine.specs.Top.{ReportsIn}
 use Rattle.ts_engine.proofs.Headlines.{Splits, splits}
 use Rattle.ts_engine.proofs.Spending.{first_bytes}
 
-module _ (exchange : Exchange plain) (last : Spot) (at : last.world ≡ exchange.to) where
-  module _ (front : List ℕ) (went : Went (beginning exchange.limits exchange.from) last exchange.had exchange.has front) (bytes more : List ℕ) (whole : bytes ≡ front ++ more) where
+module _ (exchange : Exchange plain) (last : Progress) (at : last.world ≡ exchange.to) where
+  module _ (front : List ℕ) (went : HandledAll (beginning exchange.limits exchange.from) last exchange.had exchange.has front) (bytes more : List ℕ) (whole : bytes ≡ front ++ more) where
     pub ends_as : ending bytes ≡ last.ending more
     ends_as = ap ending whole ∙ went.ending more
 
@@ -48,10 +48,10 @@ module _ (exchange : Exchange plain) (last : Spot) (at : last.world ≡ exchange
     pub all_taken : IsAtEnd left → bytes ≡ front ++ []
     all_taken at_end = split.1 ∙ ap (λ (l : List ℕ). front ++ l) (subst IsAtEnd split.2 at_end)
 
-    pub up_to_date : (went : Went (beginning exchange.limits exchange.from) last exchange.had exchange.has front) → (current : IsUpToDate last) → EndReplied exchange front (ended_at current.0)
+    pub up_to_date : (went : HandledAll (beginning exchange.limits exchange.from) last exchange.had exchange.has front) → (current : IsUpToDate last) → EndReplied exchange front (ended_at current.0)
     up_to_date went current = end_replied front went front [] (sym (append-nil front)) (ended_at current.0) current.1.items current.1.is
 
-    some_replied : WentSome (beginning exchange.limits exchange.from) last exchange.had exchange.has front → SomeReplied exchange bytes
+    some_replied : HandledSome (beginning exchange.limits exchange.from) last exchange.had exchange.has front → SomeReplied exchange bytes
     some_replied went =
         let rest = went.items split.0 in
         record {
@@ -95,32 +95,32 @@ module _ (exchange : Exchange plain) (last : Spot) (at : last.world ≡ exchange
     writes end.WriteFault ends = frame_cut ends
 
 -- a run from the empty database, on an input whose bytes are known
-module _ (seen : Seen) (held : Held) (budget : ℕ) (e : CaptureEnd) (bytes : List ℕ) (left : Option (List ℕ)) where
-  captured_of : Replayed seen.limits.wire budget e (exchange_of seen held).from (exchange_of seen held).to (Some bytes) left seen.had seen.has
+module _ (seen : RunView) (held : DbState) (budget : ℕ) (e : CaptureEnd) (bytes : List ℕ) (left : Option (List ℕ)) where
+  captured_of : CaptureRun seen.limits.wire budget e (exchange_of seen held).from (exchange_of seen held).to (Some bytes) left seen.had seen.has
       → (had has : List ℕ → Type 0) (given : Status) → ReportsIn (Some mode.Mux) (status_of e) (place_of e) given had has → (e ≡ end.Ended → given ≡ status.Ended)
       → Captured seen budget bytes left had has given
-  captured_of replayed had has given reported quiet =
-      let split = splits bytes left replayed.bytes replayed.took in
+  captured_of capture_ran had has given reported quiet =
+      let split = splits bytes left capture_ran.bytes capture_ran.took in
       record {
         held = held;
         ended = e;
-        front = replayed.bytes;
+        front = capture_ran.bytes;
         rest = split.0;
         split = split.1;
         left_is = split.2;
-        within = replayed.within;
-        spent = replayed.spent;
-        written = writes (exchange_of seen held) replayed.last replayed.world bytes replayed.bytes left split e replayed.ends;
+        within = capture_ran.within;
+        spent = capture_ran.spent;
+        written = writes (exchange_of seen held) capture_ran.last capture_ran.world bytes capture_ran.bytes left split e capture_ran.ends;
         reported = reported;
         quiet = quiet;
       }
 
   pub captured_told : (told : Option (List ℕ)) → told ≡ Some bytes
-      → Replayed seen.limits.wire budget e (exchange_of seen held).from (exchange_of seen held).to told left seen.had seen.has
+      → CaptureRun seen.limits.wire budget e (exchange_of seen held).from (exchange_of seen held).to told left seen.had seen.has
       → (had has : List ℕ → Type 0) (given : Status) → ReportsIn (Some mode.Mux) (status_of e) (place_of e) given had has → (e ≡ end.Ended → given ≡ status.Ended)
       → Captured seen budget bytes left had has given
-  captured_told told tells replayed =
-      captured_of (subst (λ (o : Option (List ℕ)). Replayed seen.limits.wire budget e (exchange_of seen held).from (exchange_of seen held).to o left seen.had seen.has) tells replayed)
+  captured_told told tells capture_ran =
+      captured_of (subst (λ (o : Option (List ℕ)). CaptureRun seen.limits.wire budget e (exchange_of seen held).from (exchange_of seen held).to o left seen.had seen.has) tells capture_ran)
 
 -- ---- the status
 
@@ -142,48 +142,48 @@ module _ (budget : ℕ) (bytes : List ℕ) where
   cut_by : (end : Capture) → ending (take budget bytes) ≡ end → status_captured budget bytes ≡ status_by (nat_le budget (length bytes)) end
   cut_by end is = ap (status_by (nat_le budget (length bytes))) is
 
-  module _ (exchange : Exchange plain) (e : CaptureEnd) (left : Option (List ℕ)) (replayed : Replayed exchange.limits budget e exchange.from exchange.to (Some bytes) left exchange.had exchange.has) where
+  module _ (exchange : Exchange plain) (e : CaptureEnd) (left : Option (List ℕ)) (capture_ran : CaptureRun exchange.limits budget e exchange.from exchange.to (Some bytes) left exchange.had exchange.has) where
     front : List ℕ
-    front = replayed.bytes
+    front = capture_ran.bytes
 
-    split : Splits bytes left replayed.bytes
-    split = splits bytes left replayed.bytes replayed.took
+    split : Splits bytes left capture_ran.bytes
+    split = splits bytes left capture_ran.bytes capture_ran.took
 
     -- the first `budget` bytes are those that were read, and more
-    first : take budget bytes ≡ replayed.bytes ++ take (budget - length replayed.bytes) split.0
-    first = ap (take budget) split.1 ∙ first_bytes replayed.bytes split.0 budget replayed.within
+    first : take budget bytes ≡ capture_ran.bytes ++ take (budget - length capture_ran.bytes) split.0
+    first = ap (take budget) split.1 ∙ first_bytes capture_ran.bytes split.0 budget capture_ran.within
 
-    read_to : (end : Capture) (went : Went (beginning exchange.limits exchange.from) replayed.last exchange.had exchange.has replayed.bytes) → IsAtEnd left → is_of_input e ≡ true
-        → replayed.last.ending [] ≡ end → status_captured budget bytes ≡ status_by false end
+    read_to : (end : Capture) (went : HandledAll (beginning exchange.limits exchange.from) capture_ran.last exchange.had exchange.has capture_ran.bytes) → IsAtEnd left → is_of_input e ≡ true
+        → capture_ran.last.ending [] ≡ end → status_captured budget bytes ≡ status_by false end
     read_to end went at_end read is =
-        let whole = all_taken exchange replayed.last replayed.world bytes replayed.bytes left split at_end in
-        let below = replayed.below read in
-        below_by end (omega (arith, below, ap length whole, length-append replayed.bytes [])) (ends_as exchange replayed.last replayed.world replayed.bytes went bytes [] whole ∙ is)
+        let whole = all_taken exchange capture_ran.last capture_ran.world bytes capture_ran.bytes left split at_end in
+        let below = capture_ran.below read in
+        below_by end (omega (arith, below, ap length whole, length-append capture_ran.bytes [])) (ends_as exchange capture_ran.last capture_ran.world capture_ran.bytes went bytes [] whole ∙ is)
 
-    by_end : (is : CaptureEnd) → e ≡ is → Ends is left (beginning exchange.limits exchange.from) replayed.last exchange.had exchange.has replayed.bytes → (reads reads' writes writes' : ℕ)
+    by_end : (is : CaptureEnd) → e ≡ is → Ends is left (beginning exchange.limits exchange.from) capture_ran.last exchange.had exchange.has capture_ran.bytes → (reads reads' writes writes' : ℕ)
         → HasCauses is reads reads' writes writes' → (Rose reads reads' → ⊥) → (Rose writes writes' → ⊥) → (status_of is ≡ status.Memory) ⊎ (status_of is ≡ status_captured budget bytes)
     by_end end.Ended same ends reads reads' writes writes' causes no_read no_write = inr (sym (read_to capture.Ended ends.0 ends.2 (ap is_of_input same) ends.1.is))
     by_end (end.Truncated place) same ends reads reads' writes writes' causes no_read no_write = inr (sym (read_to (capture.Inside place) ends.0 ends.2 (ap is_of_input same) ends.1.is))
     by_end (end.Broken place) same ends reads reads' writes writes' causes no_read no_write =
         inr (broken_by (nat_le budget (length bytes)) place ∙ sym (cut_by (capture.Broken place)
-        (ends_as exchange replayed.last replayed.world replayed.bytes ends.0 (take budget bytes) (take (budget - length replayed.bytes) split.0) first ∙ ends.1.ending (take (budget - length replayed.bytes) split.0))))
+        (ends_as exchange capture_ran.last capture_ran.world capture_ran.bytes ends.0 (take budget bytes) (take (budget - length capture_ran.bytes) split.0) first ∙ ends.1.ending (take (budget - length capture_ran.bytes) split.0))))
     by_end end.ReadFault same ends reads reads' writes writes' causes no_read no_write = absurd (no_read (causes.read refl))
     by_end end.WriteFault same ends reads reads' writes writes' causes no_read no_write = absurd (no_write (causes.write refl))
     by_end end.Memory same ends reads reads' writes writes' causes no_read no_write = inl refl
     by_end end.Budget same ends reads reads' writes writes' causes no_read no_write =
-        let used = replayed.spent same in
-        let none : budget - length replayed.bytes ≡ 0 = omega (arith, used) in
-        let all : take budget bytes ≡ replayed.bytes ++ [] = first ∙ ap (λ (n : ℕ). replayed.bytes ++ take n split.0) none in
+        let used = capture_ran.spent same in
+        let none : budget - length capture_ran.bytes ≡ 0 = omega (arith, used) in
+        let all : take budget bytes ≡ capture_ran.bytes ++ [] = first ∙ ap (λ (n : ℕ). capture_ran.bytes ++ take n split.0) none in
         inr (spent_by ends.1.0
-        ∙ sym (ap (λ (b : Bool). status_by b (ending (take budget bytes))) (le-leb budget (length bytes) (omega (arith, used, ap length split.1, length-append replayed.bytes split.0)))
-        ∙ ap (status_by true) (ends_as exchange replayed.last replayed.world replayed.bytes ends.0 (take budget bytes) [] all ∙ ends.1.1.is)))
+        ∙ sym (ap (λ (b : Bool). status_by b (ending (take budget bytes))) (le-leb budget (length bytes) (omega (arith, used, ap length split.1, length-append capture_ran.bytes split.0)))
+        ∙ ap (status_by true) (ends_as exchange capture_ran.last capture_ran.world capture_ran.bytes ends.0 (take budget bytes) [] all ∙ ends.1.1.is)))
 
 -- no fault counter rose, so the status is that of the capture, or out of memory
 pub by_capture : (exchange : Exchange plain) (budget : ℕ) (e : CaptureEnd) (bytes : List ℕ) (told left : Option (List ℕ)) → told ≡ Some bytes
-    → Replayed exchange.limits budget e exchange.from exchange.to told left exchange.had exchange.has → (reads reads' writes writes' : ℕ)
+    → CaptureRun exchange.limits budget e exchange.from exchange.to told left exchange.had exchange.has → (reads reads' writes writes' : ℕ)
     → HasCauses e reads reads' writes writes' → (Rose reads reads' → ⊥) → (Rose writes writes' → ⊥) → (status_of e ≡ status.Memory) ⊎ (status_of e ≡ status_captured budget bytes)
-by_capture exchange budget e bytes told left tells replayed reads reads' writes writes' causes no_read no_write =
-    let here = subst (λ (o : Option (List ℕ)). Replayed exchange.limits budget e exchange.from exchange.to o left exchange.had exchange.has) tells replayed in
+by_capture exchange budget e bytes told left tells capture_ran reads reads' writes writes' causes no_read no_write =
+    let here = subst (λ (o : Option (List ℕ)). CaptureRun exchange.limits budget e exchange.from exchange.to o left exchange.had exchange.has) tells capture_ran in
     by_end budget bytes exchange e left here e refl here.ends reads reads' writes writes' causes no_read no_write
 
 -- a capture never has a status of another mode

@@ -3,7 +3,7 @@ use Rattle.std.proofs.Common.{◌≡◌, ℕ, ◌+◌, ◌-◌, List, [], ◌∷
 use Rattle.std.proofs.Math.Seq.{take-append-add}
 use Rattle.std.proofs.lemmas.List.{take_all, take-append-drop, take-append-le}
 use Rattle.std.specs.Prelude.{Result, Ok, Err, OnErr}
-use Rattle.ts_io.specs.Sinks.{Grows, GrowsByFront}
+use Rattle.ts_io.specs.Sinks.{Grows, GrowsByPrefix}
 use Rattle.ts_io.proofs.Growth.{grows_twice}
 use Rattle.ts_mux.specs.declared.frame.Frame.{Frame}
 use Rattle.ts_mux.specs.Capture.{framed, all_framed}
@@ -13,7 +13,7 @@ on_err (Ok x) p = tt
 on_err (Err e) p = p
 
 -- the first bytes were written, and a prefix of the rest
-front_after : (had between has : List ℕ → Type 0) (first others : List ℕ) → Grows had between first → GrowsByFront between has others → GrowsByFront had has (first ++ others)
+front_after : (had between has : List ℕ → Type 0) (first others : List ℕ) → Grows had between first → GrowsByPrefix between has others → GrowsByPrefix had has (first ++ others)
 front_after had between has first others grown front =
     let within = front.within in
     record {
@@ -29,10 +29,10 @@ written_apart header bytes first = append_assoc header (take first bytes) (drop 
 
 -- a prefix of the first part was written
 pub front_of_first : (had has : List ℕ → Type 0) (header bytes written : List ℕ) (first : ℕ) → written ≡ header ++ take first bytes
-    → GrowsByFront had has written → GrowsByFront had has (header ++ bytes)
+    → GrowsByPrefix had has written → GrowsByPrefix had has (header ++ bytes)
 front_of_first had has header bytes written first is front =
     let within = front.within in
-    subst (λ l. GrowsByFront had has l) (ap (λ l. l ++ drop first bytes) is ∙ written_apart header bytes first) (record {
+    subst (λ l. GrowsByPrefix had has l) (ap (λ l. l ++ drop first bytes) is ∙ written_apart header bytes first) (record {
       len = front.len;
       within = omega (arith, within, length-append written (drop first bytes));
       grows = subst (λ l. Grows had has l) (sym (take-append-le front.len written (drop first bytes) within)) front.grows;
@@ -40,11 +40,11 @@ front_of_first had has header bytes written first is front =
 
 -- the first part was written, and a prefix of the rest
 pub front_of_others : (had between has : List ℕ → Type 0) (header bytes written : List ℕ) (first : ℕ) → written ≡ header ++ take first bytes
-    → Grows had between written → GrowsByFront between has (take (length bytes - first) (drop first bytes)) → GrowsByFront had has (header ++ bytes)
+    → Grows had between written → GrowsByPrefix between has (take (length bytes - first) (drop first bytes)) → GrowsByPrefix had has (header ++ bytes)
 front_of_others had between has header bytes written first is grown front =
     let others : take (length bytes - first) (drop first bytes) ≡ drop first bytes = take_all _ _ (omega (arith, length-drop first bytes)) in
-    subst (λ l. GrowsByFront had has l) (ap (λ l. l ++ drop first bytes) is ∙ written_apart header bytes first)
-    (front_after had between has written (drop first bytes) grown (subst (λ l. GrowsByFront between has l) others front))
+    subst (λ l. GrowsByPrefix had has l) (ap (λ l. l ++ drop first bytes) is ∙ written_apart header bytes first)
+    (front_after had between has written (drop first bytes) grown (subst (λ l. GrowsByPrefix between has l) others front))
 
 -- ---- all frames
 

@@ -5,23 +5,23 @@ use Rattle.std.proofs.lemmas.List.{take_all, take-append-le}
 use Rattle.std.proofs.lemmas.List.Elements.{All-nil, All-cons, All-head, All-tail}
 use Rattle.std.proofs.Math.Seq.{take-append-add, take-append_seam}
 use Rattle.std.specs.Io.KnownBytes.{append_known}
-use Rattle.ts_spec.specs.Fronts.{IsFront, IsWithin}
+use Rattle.ts_spec.specs.StreamPrefixes.{IsStreamPrefix, IsWithin}
 use Rattle.ts_spec.specs.Run.{Runs, is_quit, until_quit}
 use Rattle.ts_spec.specs.Wire.{Request, Stream, Then, Ended, Inside, Broken, Start, stream_at, requests_of}
 use Rattle.ts_spec.specs.declared.limits.Limits.{Limits}
 use Rattle.ts_spec.specs.declared.wire.WireLimits.{WireLimits}
-use Rattle.ts_spec.proofs.Fronts.{read_on-front}
+use Rattle.ts_spec.proofs.StreamPrefixes.{read_on-front}
 use Rattle.ts_spec.proofs.Runs.{Runs-append, Runs-one}
 use Rattle.ts_spec.proofs.Within.{requests-within}
 use Rattle.ts_journal.specs.Limits.{IsBounded}
 use Rattle.ts_journal.specs.Loading.{load, LoadsTo}
-use Rattle.ts_execution.specs.Keeping.{Kept, kept, served, IsKept, IsTorn, journaled}
+use Rattle.ts_execution.specs.Journaling.{Snapshot, kept, served, IsJournaled, IsTorn, journaled}
 use Rattle.ts_engine.specs.declared.piped.End.{End}
 use Rattle.ts_engine.specs.declared.piped.End.TheVariants as end
-use Rattle.ts_engine.specs.Headline.{Exchange, requests, asks_to_quit, FrontAnswered, Writes}
-use Rattle.ts_engine.specs.Unkept.{Unkept}
+use Rattle.ts_engine.specs.Headline.{Exchange, requests, asks_to_quit, PrefixAnswered, Writes}
+use Rattle.ts_engine.specs.NotJournaled.{NotJournaled}
 use Rattle.ts_engine.proofs.Quits.{until_quit-append}
-use Rattle.ts_engine.proofs.Restorings.{GrowsOn, RunFront, none-done, added-to, run-restores, grows_by_turn}
+use Rattle.ts_engine.proofs.PrefixReplayLemmas.{GrowsOn, RunFront, none-done, added-to, run-replay_matches, grows_by_turn}
 
 -- ---- the requests of an input
 
@@ -39,7 +39,7 @@ pub input-within : (limits : WireLimits) (bytes : List ℕ) → All (IsWithin li
 input-within limits bytes = until-within limits (requests_of (stream_at limits 0 bytes)) (requests-within limits 0 0 Start bytes tt)
 
 -- the requests of a prefix come first
-front-requests : (stream other : Stream) → IsFront stream other → (others : List Request) × (requests_of other ≡ requests_of stream ++ others)
+front-requests : (stream other : Stream) → IsStreamPrefix stream other → (others : List Request) × (requests_of other ≡ requests_of stream ++ others)
 front-requests (Then request place rest) other front =
     let more = front-requests rest front.0 front.2 in
     (more.0, ap requests_of front.1 ∙ ap (λ (l : List Request). request ∷ l) more.1)
@@ -65,13 +65,13 @@ pub record FirstRun (exchange : Exchange journaled) (bytes : List ℕ) : Type 0 
   pub others : List Request
   pub first : requests exchange.limits bytes ≡ done ++ others
   pub text : List ℕ
-  pub run : Runs IsKept exchange.from done text exchange.to
+  pub run : Runs IsJournaled exchange.from done text exchange.to
 
 module _ (exchange : Exchange journaled) (budget : ℕ) (bytes : List ℕ) (left : Option (List ℕ)) where
-  all-run : (text : List ℕ) → Runs IsKept exchange.from (requests exchange.limits bytes) text exchange.to → FirstRun exchange bytes
+  all-run : (text : List ℕ) → Runs IsJournaled exchange.from (requests exchange.limits bytes) text exchange.to → FirstRun exchange bytes
   all-run text run = record { done = requests exchange.limits bytes; others = []; first = sym (append-nil (requests exchange.limits bytes)); text = text; run = run }
 
-  front-run : FrontAnswered exchange bytes left → FirstRun exchange bytes
+  front-run : PrefixAnswered exchange bytes left → FirstRun exchange bytes
   front-run answered =
       let more = first-requests exchange.limits bytes answered.front answered.rest answered.split answered.goes_on in
       record { done = requests exchange.limits answered.front; others = more.0; first = more.1; text = answered.answered.text; run = answered.answered.run }
@@ -89,14 +89,14 @@ module _ (exchange : Exchange journaled) (budget : ℕ) (bytes : List ℕ) (left
     others = cut.others;
     first = cut.first ∙ sym (append_assoc cut.done (cut.last ∷ []) cut.others);
     text = cut.text ++ cut.reply;
-    run = Runs-append IsKept exchange.from cut.mid exchange.to cut.done (cut.last ∷ []) cut.text cut.reply cut.run (Runs-one IsKept cut.mid exchange.to cut.last cut.reply cut.turned);
+    run = Runs-append IsJournaled exchange.from cut.mid exchange.to cut.done (cut.last ∷ []) cut.text cut.reply cut.run (Runs-one IsJournaled cut.mid exchange.to cut.last cut.reply cut.turned);
   }
   first-run end.WriteFault (inr cut) = all-run cut.answered.text cut.answered.run
 
 -- ---- the content of the journal, and what its prefixes load to
 
 -- a prefix of the journal after the first requests is one after all requests
-widened : (limits : Limits) (from : Kept) (done others asked : List Request) (front : List ℕ) → asked ≡ done ++ others → RunFront limits from done front → RunFront limits from asked front
+widened : (limits : Limits) (from : Snapshot) (done others asked : List Request) (front : List ℕ) → asked ≡ done ++ others → RunFront limits from done front → RunFront limits from asked front
 widened limits from done others asked front split part = record {
   done = part.done;
   others = part.others ++ others;
@@ -110,10 +110,10 @@ widened limits from done others asked front split part = record {
 }
 
 -- the content, and that each of its prefixes loads like this
-pub record Told (limits : Limits) (from : Kept) (asked : List Request) (least : ℕ) (content : Option (List ℕ)) : Type 0 where
+pub record Told (limits : Limits) (from : Snapshot) (asked : List Request) (least : ℕ) (content : Option (List ℕ)) : Type 0 where
   pub journal : List ℕ
   pub told : content ≡ Some journal
-  pub restores : (n : ℕ) → least ≤ n → RunFront limits from asked (take n journal)
+  pub replay_matches : (n : ℕ) → least ≤ n → RunFront limits from asked (take n journal)
 
 first-within : (limits : WireLimits) (done others : List Request) → All (IsWithin limits) (done ++ others) → All (IsWithin limits) done
 first-within limits [] others all = All-nil (IsWithin limits)
@@ -141,20 +141,20 @@ take-twice n m l = go (within-or-past n m)
         take_all n (take m l) (omega (arith, past, length-take m l)) ∙ ap (λ (i : ℕ). take i l) (sym is)
 
 -- what later requests did
-after-run : (limits : Limits) (from mid : Kept) (done asked : List Request) (text front : List ℕ) → Runs IsKept from done text mid → RunFront limits mid asked front → RunFront limits from (done ++ asked) front
+after-run : (limits : Limits) (from mid : Snapshot) (done asked : List Request) (text front : List ℕ) → Runs IsJournaled from done text mid → RunFront limits mid asked front → RunFront limits from (done ++ asked) front
 after-run limits from mid done asked text front run rest = record {
   done = done ++ rest.done;
   others = rest.others;
   first = ap (λ (l : List Request). done ++ l) rest.first ∙ sym (append_assoc done rest.done rest.others);
   text = text ++ rest.text;
   mid = rest.mid;
-  run = Runs-append IsKept from mid rest.mid done rest.done text rest.text run rest.run;
+  run = Runs-append IsJournaled from mid rest.mid done rest.done text rest.text run rest.run;
   place = rest.place;
   content = rest.content;
   loads = rest.loads;
 }
 
-module _ (limits : Limits) (from mid : Kept) (done others : List Request) (last : Request) (text reply : List ℕ) (run : Runs IsKept from done text mid) (loaded more : List ℕ) (to : Kept)
+module _ (limits : Limits) (from mid : Snapshot) (done others : List Request) (last : Request) (text reply : List ℕ) (run : Runs IsJournaled from done text mid) (loaded more : List ℕ) (to : Snapshot)
     (its : mid.content ≡ Some (loaded ++ more)) (torn : IsTorn mid last reply to) (grown : GrowsOn limits (loaded ++ more) mid.held to.held torn.record_) where
   -- the journal with a prefix of the last record, or all of it
   torn-part : (m : ℕ) → (m < length torn.record_) ⊎ (length torn.record_ ≤ m) → RunFront limits mid (last ∷ others) ((loaded ++ more) ++ take m torn.record_)
@@ -166,7 +166,7 @@ module _ (limits : Limits) (from mid : Kept) (done others : List Request) (last 
     first = refl;
     text = reply;
     mid = kept to.readings (append_known mid.content torn.record_) mid.failed to.held;
-    run = Runs-one IsKept mid (kept to.readings (append_known mid.content torn.record_) mid.failed to.held) last reply
+    run = Runs-one IsJournaled mid (kept to.readings (append_known mid.content torn.record_) mid.failed to.held) last reply
         (record { record_ = torn.record_; recorded = torn.recorded; content = refl; failed = refl });
     place = length ((loaded ++ more) ++ torn.record_);
     content = ap (λ (o : Option (List ℕ)). append_known o torn.record_) its
@@ -199,28 +199,28 @@ module _ (limits : Limits) (bounded : IsBounded limits.wire) (exchange : Exchang
 
   pub told-first : FirstRun exchange bytes → Told limits exchange.from (requests exchange.limits bytes) (length loaded) exchange.to.content
   told-first first =
-      let done = run-restores limits bounded first.done loaded exchange.from exchange.to first.text (asked-within first.done first.others first.first) its_limits its_content loads first.run in
+      let done = run-replay_matches limits bounded first.done loaded exchange.from exchange.to first.text (asked-within first.done first.others first.first) its_limits its_content loads first.run in
       record {
         journal = loaded ++ done.more;
         told = done.content;
-        restores = λ n past. widened limits exchange.from first.done first.others (requests exchange.limits bytes) (take n (loaded ++ done.more)) first.first (done.fronts n past);
+        replay_matches = λ n past. widened limits exchange.from first.done first.others (requests exchange.limits bytes) (take n (loaded ++ done.more)) first.first (done.fronts n past);
       }
 
   -- the journal failed within the next record
-  pub told-torn : Unkept exchange bytes → Told limits exchange.from (requests exchange.limits bytes) (length loaded) exchange.to.content
-  told-torn unkept =
-      let all : List Request = unkept.done ++ unkept.last ∷ unkept.others in
-      let within : All (IsWithin limits.wire) all = asked-within all [] (unkept.first ∙ sym (append-nil all)) in
-      let done = run-restores limits bounded unkept.done loaded exchange.from unkept.mid unkept.text (first-within limits.wire unkept.done (unkept.last ∷ unkept.others) within)
-      its_limits its_content loads unkept.run in
-      let torn : IsTorn unkept.mid unkept.last unkept.reply exchange.to = unkept.torn in
+  pub told-torn : NotJournaled exchange bytes → Told limits exchange.from (requests exchange.limits bytes) (length loaded) exchange.to.content
+  told-torn not_journaled =
+      let all : List Request = not_journaled.done ++ not_journaled.last ∷ not_journaled.others in
+      let within : All (IsWithin limits.wire) all = asked-within all [] (not_journaled.first ∙ sym (append-nil all)) in
+      let done = run-replay_matches limits bounded not_journaled.done loaded exchange.from not_journaled.mid not_journaled.text (first-within limits.wire not_journaled.done (not_journaled.last ∷ not_journaled.others) within)
+      its_limits its_content loads not_journaled.run in
+      let torn : IsTorn not_journaled.mid not_journaled.last not_journaled.reply exchange.to = not_journaled.torn in
       let journal : List ℕ = loaded ++ done.more in
-      let grown = grows_by_turn limits bounded journal unkept.last (served unkept.mid) (served exchange.to) unkept.reply torn.record_
-      (last-within limits.wire unkept.done unkept.last unkept.others within) done.limits_stay done.loads torn.recorded in
+      let grown = grows_by_turn limits bounded journal not_journaled.last (served not_journaled.mid) (served exchange.to) not_journaled.reply torn.record_
+      (last-within limits.wire not_journaled.done not_journaled.last not_journaled.others within) done.limits_stay done.loads torn.recorded in
       record {
         journal = journal ++ take torn.kept torn.record_;
-        told = added-to unkept.mid.content exchange.to.content journal (take torn.kept torn.record_) done.content torn.content;
-        restores = λ n past. subst (λ (l : List Request). RunFront limits exchange.from l (take n (journal ++ take torn.kept torn.record_))) (sym unkept.first)
-            (torn-fronts limits exchange.from unkept.mid unkept.done unkept.others unkept.last unkept.text unkept.reply unkept.run loaded done.more exchange.to done.content torn grown done.fronts n past
+        told = added-to not_journaled.mid.content exchange.to.content journal (take torn.kept torn.record_) done.content torn.content;
+        replay_matches = λ n past. subst (λ (l : List Request). RunFront limits exchange.from l (take n (journal ++ take torn.kept torn.record_))) (sym not_journaled.first)
+            (torn-fronts limits exchange.from not_journaled.mid not_journaled.done not_journaled.others not_journaled.last not_journaled.text not_journaled.reply not_journaled.run loaded done.more exchange.to done.content torn grown done.fronts n past
             (within-or-past n (length journal)));
       }

@@ -3,8 +3,8 @@ use Rattle.std.specs.Prelude.{Option, None, Some}
 use Rattle.std.specs.Option.{option_map}
 use Rattle.std.proofs.Common.{◌≡◌, ℕ, ◌+◌, ◌≤◌, List, [], ◌∷◌, ◌++◌, length, map, take, refl, sym, ◌∙◌, ap, subst, arith, append_assoc, append-nil, length-append}
 use Rattle.std.proofs.lemmas.List.{map-append}
-use Rattle.ts_io.specs.Sinks.{Grows, GrowsByFront}
-use Rattle.ts_io.specs.Links.{TakesFront, AddsAtEnd}
+use Rattle.ts_io.specs.Sinks.{Grows, GrowsByPrefix}
+use Rattle.ts_io.specs.Links.{PopsFront, PushesBack}
 use Rattle.ts_io.specs.declared.listener.Ends.{Ends}
 use Rattle.ts_io.proofs.Growth.{grows_none, grows_twice}
 use Rattle.ts_spec.specs.declared.wire.WireLimits.{WireLimits}
@@ -13,10 +13,10 @@ use Rattle.ts_engine.specs.declared.serving.Served.TheVariants.{Done, AcceptFaul
 use Rattle.ts_words.specs.declared.mode.Mode.{Mode}
 use Rattle.ts_words.specs.declared.mode.Mode.TheVariants.{Serve}
 use Rattle.ts_words.specs.declared.status.Status.{Status}
-use Rattle.ts_execution.specs.Turn.{World}
+use Rattle.ts_execution.specs.Handling.{World}
 use Rattle.ts_engine.specs.Asked.{AllServed}
-use Rattle.ts_engine.specs.Headline.{Seen}
-use Rattle.ts_engine.specs.Serving.{line_at, Link, lines_from, StreamViews, Handed, IsServed, AreServed, Lines, Serves}
+use Rattle.ts_engine.specs.Headline.{RunView}
+use Rattle.ts_engine.specs.Serving.{line_at, Link, lines_from, StreamViews, LinksMoved, IsServed, AreServed, Lines, Serves}
 
 -- the lines of two lists of connections
 lines_append : {I O : Type 0} (number : ℕ) (xs ys : List (Link I O)) → lines_from number (xs ++ ys) ≡ lines_from number xs ++ lines_from (number + length xs) ys
@@ -27,15 +27,15 @@ lines_append number (x ∷ xs) ys =
     ∙ sym (append_assoc (line_at number x.outcome) (lines_from (number + 1) xs) (lines_from (number + length (x ∷ xs)) ys))
 
 -- no connection was accepted
-handed_none : {I O : Type 0} (coming closed : Option (List (Ends I O))) → Handed [] coming coming closed closed
+handed_none : {I O : Type 0} (coming closed : Option (List (Ends I O))) → LinksMoved [] coming coming closed closed
 handed_none None None = record { came = refl; back = refl }
 handed_none None (Some back) = record { came = refl; back = ap Some (sym (append-nil back)) }
 handed_none (Some links) None = record { came = refl; back = refl }
 handed_none (Some links) (Some back) = record { came = refl; back = ap Some (sym (append-nil back)) }
 
 -- one connection was accepted and closed
-handed_one : {I O : Type 0} (link : Link I O) (coming coming' closed closed' : Option (List (Ends I O))) → TakesFront coming coming' link.came → AddsAtEnd closed closed' link.back
-    → Handed (link ∷ []) coming coming' closed closed'
+handed_one : {I O : Type 0} (link : Link I O) (coming coming' closed closed' : Option (List (Ends I O))) → PopsFront coming coming' link.came → PushesBack closed closed' link.back
+    → LinksMoved (link ∷ []) coming coming' closed closed'
 handed_one link coming coming' closed closed' takes adds = record { came = takes; back = adds }
 
 -- the connections accepted in two lists
@@ -47,7 +47,7 @@ back_both : {T : Type 0} (xs ys : List T) (o : Option (List T)) → option_map (
 back_both xs ys None = refl
 back_both xs ys (Some before) = ap Some (append_assoc before xs ys)
 
-handed_both : {I O : Type 0} (xs ys : List (Link I O)) (c c1 c2 k k1 k2 : Option (List (Ends I O))) → Handed xs c c1 k k1 → Handed ys c1 c2 k1 k2 → Handed (xs ++ ys) c c2 k k2
+handed_both : {I O : Type 0} (xs ys : List (Link I O)) (c c1 c2 k k1 k2 : Option (List (Ends I O))) → LinksMoved xs c c1 k k1 → LinksMoved ys c1 c2 k1 k2 → LinksMoved (xs ++ ys) c c2 k k2
 handed_both {I} {O} xs ys c c1 c2 k k1 k2 one two = record {
   came = one.came ∙ ap (option_map (λ (rest : List (Ends I O)). map (λ (l : Link I O). l.came) xs ++ rest)) two.came
       ∙ came_both (map (λ (l : Link I O). l.came) xs) (map (λ (l : Link I O). l.came) ys) c2
@@ -111,14 +111,14 @@ module _ {I O : Type 0} (views : StreamViews I O) (limits : WireLimits) (budget 
   serves_fault number most world coming coming' closed closed' has some came back = record {
     links = [];
     run = refl;
-    handed = subst (λ (c : Option (List (Ends I O))). Handed [] coming c closed closed') (sym came)
-        (subst (λ (k : Option (List (Ends I O))). Handed [] coming coming closed k) (sym back) (handed_none coming closed));
+    handed = subst (λ (c : Option (List (Ends I O))). LinksMoved [] coming c closed closed') (sym came)
+        (subst (λ (k : Option (List (Ends I O))). LinksMoved [] coming coming closed k) (sym back) (handed_none coming closed));
     lines = (omega (arith, some), grows_none has);
   }
 
   -- one connection was served
   module _ (number : ℕ) (link : Link I O) (from to : World) (coming coming' closed closed' : Option (List (Ends I O))) (had has : List ℕ → Type 0)
-      (takes : TakesFront coming coming' link.came) (adds : AddsAtEnd closed closed' link.back) (served : IsServed views limits budget link from to) where
+      (takes : PopsFront coming coming' link.came) (adds : PushesBack closed closed' link.back) (served : IsServed views limits budget link from to) where
     pub serves_one : Grows had has (line_at number link.outcome) → Serves views limits budget Done number 1 from to coming coming' closed closed' had has
     serves_one grown = record {
       links = link ∷ [];
@@ -128,7 +128,7 @@ module _ {I O : Type 0} (views : StreamViews I O) (limits : WireLimits) (budget 
     }
 
     -- and its line could not be written
-    pub serves_cut : GrowsByFront had has (line_at number link.outcome) → Serves views limits budget WriteFault number 1 from to coming coming' closed closed' had has
+    pub serves_cut : GrowsByPrefix had has (line_at number link.outcome) → Serves views limits budget WriteFault number 1 from to coming coming' closed closed' had has
     serves_cut front = record {
       links = link ∷ [];
       run = (to, served, refl);
@@ -197,6 +197,6 @@ same_links mode a b one two = serves_same (one ∙ two)
     serves_same : Some (Serve a) ≡ Some (Serve b) → a ≡ b
     serves_same same = (cc)
 
-pub all_served_as : {I O : Type 0} (views : StreamViews I O) (seen : Seen) (budget most most' : ℕ) (coming coming' closed closed' : Option (List (Ends I O))) (given : Status) → most ≡ most'
+pub all_served_as : {I O : Type 0} (views : StreamViews I O) (seen : RunView) (budget most most' : ℕ) (coming coming' closed closed' : Option (List (Ends I O))) (given : Status) → most ≡ most'
     → AllServed views seen budget most coming coming' closed closed' given → AllServed views seen budget most' coming coming' closed closed' given
 all_served_as views seen budget most most' coming coming' closed closed' given same all = subst (λ (n : ℕ). AllServed views seen budget n coming coming' closed closed' given) same all

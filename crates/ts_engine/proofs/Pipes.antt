@@ -10,13 +10,13 @@ use Rattle.ts_engine.specs.declared.piped.End.{End}
 use Rattle.ts_engine.specs.declared.piped.End.TheVariants as end
 use Rattle.ts_engine.specs.declared.piped.Step.{Step}
 use Rattle.ts_io.specs.Causes.{Rose}
-use Rattle.ts_execution.specs.Turn.{plain}
-use Rattle.ts_execution.specs.Turns.{Turns, NoFault, AFault}
+use Rattle.ts_execution.specs.Handling.{plain}
+use Rattle.ts_execution.specs.Handler.{Handler, NoFault, AFault}
 use Rattle.ts_engine.specs.declared.replying.Go.{Go}
 use Rattle.ts_engine.specs.declared.replying.Go.TheVariants as go
 use Rattle.ts_engine.specs.Ending.{end_at, end_by}
-use Rattle.ts_engine.specs.Session.{Spot, Went, Quitted, IsUpToDate, WentAs}
-use Rattle.ts_engine.specs.Piping.{beginning_of, ReadAll, Ends, EndsOr, PIECE, shown_at, is_of_input, has_ended, Pumped, PipedBy, HasCauses, HasCausesBy}
+use Rattle.ts_engine.specs.Session.{Progress, HandledAll, QuitReplied, IsUpToDate, HandledAs}
+use Rattle.ts_engine.specs.Piping.{beginning_of, ReadAll, Ends, EndsOr, PIECE, shown_at, is_of_input, has_ended, Pumped, PipedWith, HasCauses, HasCausesWith}
 use Rattle.ts_engine.proofs.Places.{reply_past, break_past}
 use Rattle.ts_engine.proofs.Sessions.{fed_only, not_fed, went_on, quitted_on, answers_on}
 
@@ -25,39 +25,39 @@ near_by : (shown : Option ℕ) (before taken : ℕ) → taken ≤ before + PIECE
 near_by None before taken piece past = tt
 near_by (Some place) before taken piece past = omega (arith, piece, past)
 
-module _ {turns : Turns} where
+module _ {handler : Handler} where
   -- this many bytes were read, and their requests handled
-  pub record SoFar (limits : WireLimits) (taken : ℕ) (from : turns.World) (now : Spot turns) (left rest : Option (List ℕ)) (had has : List ℕ → Type 0) : Type 0 where
+  pub record SoFar (limits : WireLimits) (taken : ℕ) (from : handler.World) (now : Progress handler) (left rest : Option (List ℕ)) (had has : List ℕ → Type 0) : Type 0 where
     pub bytes : List ℕ
     pub count : length bytes ≡ taken
     pub took : Consumes left rest bytes
-    pub went : Went (beginning_of turns limits from) now had has bytes []
+    pub went : HandledAll (beginning_of handler limits from) now had has bytes []
 
   -- nothing was read yet
-  pub so_far_none : (limits : WireLimits) (now : Spot turns) (left : Option (List ℕ)) (has : List ℕ → Type 0)
+  pub so_far_none : (limits : WireLimits) (now : Progress handler) (left : Option (List ℕ)) (has : List ℕ → Type 0)
       → ((more : List ℕ) → stream_of now.reader more ≡ stream_at limits 0 more) → now.executed ≡ 0 → SoFar limits 0 now.world now left left has has
   so_far_none limits now left has stream executed = record {
     bytes = [];
     count = refl;
     took = Consumes-nil left;
-    went = fed_only (beginning_of turns limits now.world) now has [] stream executed refl;
+    went = fed_only (beginning_of handler limits now.world) now has [] stream executed refl;
   }
 
   -- the end of the input, or QUIT, after a prefix is that of all bytes
-  abbrev ended_on : (first mid last : Spot turns) (had has' has : List ℕ → Type 0) (x y : List ℕ) (rest : Option (List ℕ))
-      → Went first mid had has' x [] → ReadAll rest mid last has' has y ⊎ Quitted mid last has' has y → ReadAll rest first last had has (x ++ y) ⊎ Quitted first last had has (x ++ y)
+  abbrev ended_on : (first mid last : Progress handler) (had has' has : List ℕ → Type 0) (x y : List ℕ) (rest : Option (List ℕ))
+      → HandledAll first mid had has' x [] → ReadAll rest mid last has' has y ⊎ QuitReplied mid last has' has y → ReadAll rest first last had has (x ++ y) ⊎ QuitReplied first last had has (x ++ y)
   ended_on first mid last had has' has x y rest went (inl all) =
       inl (record { went = went_on first mid had has' x went last has y [] all.went; ended = all.ended; at_end = all.at_end })
   ended_on first mid last had has' has x y rest went (inr quitted) = inr (quitted_on first mid had has' x went last has y quitted)
 
   -- the end of the input, by where it is
-  ends_read : (place : Option ℕ) (left : Option (List ℕ)) (old new : Spot turns) (had has : List ℕ → Type 0) → Went old new had has [] [] → stream_of new.reader [] ≡ ended_at place → IsAtEnd left
+  ends_read : (place : Option ℕ) (left : Option (List ℕ)) (old new : Progress handler) (had has : List ℕ → Type 0) → HandledAll old new had has [] [] → stream_of new.reader [] ≡ ended_at place → IsAtEnd left
       → Ends (end_at place) left old new had has []
   ends_read None left old new had has went is at_end = inl (record { went = went; ended = is; at_end = at_end })
   ends_read (Some place) left old new had has went is at_end = (went, is, at_end)
 
   -- a read returned nothing: the end of the input
-  pub pumped_end : (now : Spot turns) (left rest : Option (List ℕ)) (has : List ℕ → Type 0) (e : End) → e ≡ end_at (unfinished now.reader) → IsUpToDate now
+  pub pumped_end : (now : Progress handler) (left rest : Option (List ℕ)) (has : List ℕ → Type 0) (e : End) → e ≡ end_at (unfinished now.reader) → IsUpToDate now
       → (n : ℕ) (buffer : List ℕ) → n ≡ 0 → Consumes left rest (take n buffer) → IsAtEnd rest
       → Pumped (record { taken = 0; end = Some e }) left rest now now has has
   pumped_end now left rest has e is current n buffer none took at_end = record {
@@ -70,8 +70,8 @@ module _ {turns : Turns} where
   }
 
   -- an end after a prefix is an end after all bytes
-  abbrev ends_on : (e : End) (first mid last : Spot turns) (had has' has : List ℕ → Type 0) (x y : List ℕ) (rest : Option (List ℕ))
-      → Went first mid had has' x [] → Ends e rest mid last has' has y → Ends e rest first last had has (x ++ y)
+  abbrev ends_on : (e : End) (first mid last : Progress handler) (had has' has : List ℕ → Type 0) (x y : List ℕ) (rest : Option (List ℕ))
+      → HandledAll first mid had has' x [] → Ends e rest mid last has' has y → Ends e rest first last had has (x ++ y)
   ends_on end.Ended first mid last had has' has x y rest went ends = ended_on first mid last had has' has x y rest went ends
   ends_on (end.Truncated place) first mid last had has' has x y rest went ends = (went_on first mid had has' x went last has y [] ends.0, ends.1, ends.2)
   ends_on (end.Protocol fault) first mid last had has' has x y rest went ends = answers_on first mid had has' x went (go.Broken fault) last has y ends
@@ -81,8 +81,8 @@ module _ {turns : Turns} where
   ends_on end.Budget first mid last had has' has x y rest went ends = answers_on first mid had has' x went go.More last has y ends
 
   -- the input shows it past what the session was fed before
-  ends_past : (e : End) (first mid last : Spot turns) (had has' has : List ℕ → Type 0) (x y : List ℕ) (rest : Option (List ℕ))
-      → (went : Went first mid had has' x []) → IsUpToDate mid → (ends : Ends e rest mid last has' has y)
+  ends_past : (e : End) (first mid last : Progress handler) (had has' has : List ℕ → Type 0) (x y : List ℕ) (rest : Option (List ℕ))
+      → (went : HandledAll first mid had has' x []) → IsUpToDate mid → (ends : Ends e rest mid last has' has y)
       → IfSome (shown_at e rest first last had has (x ++ y) (ends_on e first mid last had has' has x y rest went ends)) (λ place. fed mid.reader ≤ place)
   ends_past end.Ended first mid last had has' has x y rest went current (inl all) = tt
   ends_past end.Ended first mid last had has' has x y rest went current (inr quitted) =
@@ -99,7 +99,7 @@ module _ {turns : Turns} where
   ends_past end.Budget first mid last had has' has x y rest went current ends = tt
 
   -- it is the end of the input, if it was that after the prefix
-  of_input : (e : End) (first mid last : Spot turns) (had has' has : List ℕ → Type 0) (x y : List ℕ) (rest : Option (List ℕ)) (went : Went first mid had has' x []) (ends : Ends e rest mid last has' has y)
+  of_input : (e : End) (first mid last : Progress handler) (had has' has : List ℕ → Type 0) (x y : List ℕ) (rest : Option (List ℕ)) (went : HandledAll first mid had has' x []) (ends : Ends e rest mid last has' has y)
       → is_of_input e rest first last had has (x ++ y) (ends_on e first mid last had has' has x y rest went ends) ≡ is_of_input e rest mid last has' has y ends
   of_input end.Ended first mid last had has' has x y rest went (inl all) = refl
   of_input end.Ended first mid last had has' has x y rest went (inr quitted) = refl
@@ -110,10 +110,10 @@ module _ {turns : Turns} where
   of_input end.Memory first mid last had has' has x y rest went ends = refl
   of_input end.Budget first mid last had has' has x y rest went ends = refl
 
-  module _ (limits : WireLimits) (taken : ℕ) (from : turns.World) (mid : Spot turns) (left between : Option (List ℕ)) (had has' : List ℕ → Type 0)
+  module _ (limits : WireLimits) (taken : ℕ) (from : handler.World) (mid : Progress handler) (left between : Option (List ℕ)) (had has' : List ℕ → Type 0)
       (so_far : SoFar limits taken from mid left between had has') where
     -- one more piece was handled
-    pub so_far_more : (step : Step) (now : Spot turns) (rest : Option (List ℕ)) (has : List ℕ → Type 0) → step.end ≡ None
+    pub so_far_more : (step : Step) (now : Progress handler) (rest : Option (List ℕ)) (has : List ℕ → Type 0) → step.end ≡ None
         → Pumped step between rest mid now has' has → SoFar limits (taken + step.taken) from now left rest had has
     so_far_more step now rest has is pumped =
         let ends = subst (λ e. EndsOr e rest mid now has' has pumped.bytes) is pumped.ends in
@@ -121,14 +121,14 @@ module _ {turns : Turns} where
           bytes = so_far.bytes ++ pumped.bytes;
           count = omega (arith, so_far.count, pumped.count, length-append so_far.bytes pumped.bytes);
           took = Consumes-trans left between rest so_far.bytes pumped.bytes so_far.took pumped.took;
-          went = went_on (beginning_of turns limits from) mid had has' so_far.bytes so_far.went now has pumped.bytes [] ends.0;
+          went = went_on (beginning_of handler limits from) mid had has' so_far.bytes so_far.went now has pumped.bytes [] ends.0;
         }
 
     -- the last piece was handled
-    pub piped_last : (budget executed count : ℕ) (e : End) (now : Spot turns) (rest : Option (List ℕ)) (has : List ℕ → Type 0)
+    pub piped_last : (budget executed count : ℕ) (e : End) (now : Progress handler) (rest : Option (List ℕ)) (has : List ℕ → Type 0)
         → executed ≡ now.executed → taken < budget → taken + count ≤ budget → (e ≡ end.Budget → ⊥) → IsUpToDate mid → fed mid.reader ≡ taken → count ≤ PIECE
         → Pumped (record { taken = count; end = Some e }) between rest mid now has' has
-        → PipedBy turns limits budget (record { executed = executed; taken = taken + count; end = e }) from now.world left rest had has
+        → PipedWith handler limits budget (record { executed = executed; taken = taken + count; end = e }) from now.world left rest had has
     piped_last budget executed count e now rest has done less within unspent current fed_is piece pumped = record {
       bytes = so_far.bytes ++ pumped.bytes;
       last = now;
@@ -138,26 +138,26 @@ module _ {turns : Turns} where
       took = Consumes-trans left between rest so_far.bytes pumped.bytes so_far.took pumped.took;
       world = refl;
       executed = sym done;
-      ends = ends_on e (beginning_of turns limits from) mid now had has' has so_far.bytes pumped.bytes rest so_far.went pumped.ends;
-      near = near_by (shown_at e rest (beginning_of turns limits from) now had has (so_far.bytes ++ pumped.bytes) (ends_on e (beginning_of turns limits from) mid now had has' has so_far.bytes pumped.bytes rest so_far.went pumped.ends)) (fed mid.reader) (taken + count) (omega (arith, fed_is, piece))
-          (ends_past e (beginning_of turns limits from) mid now had has' has so_far.bytes pumped.bytes rest so_far.went current pumped.ends);
+      ends = ends_on e (beginning_of handler limits from) mid now had has' has so_far.bytes pumped.bytes rest so_far.went pumped.ends;
+      read_bound = near_by (shown_at e rest (beginning_of handler limits from) now had has (so_far.bytes ++ pumped.bytes) (ends_on e (beginning_of handler limits from) mid now had has' has so_far.bytes pumped.bytes rest so_far.went pumped.ends)) (fed mid.reader) (taken + count) (omega (arith, fed_is, piece))
+          (ends_past e (beginning_of handler limits from) mid now had has' has so_far.bytes pumped.bytes rest so_far.went current pumped.ends);
       below = λ same.
-          let none : count ≡ 0 = pumped.none (sym (of_input e (beginning_of turns limits from) mid now had has' has so_far.bytes pumped.bytes rest so_far.went pumped.ends) ∙ same) in
+          let none : count ≡ 0 = pumped.none (sym (of_input e (beginning_of handler limits from) mid now had has' has so_far.bytes pumped.bytes rest so_far.went pumped.ends) ∙ same) in
           omega (arith, none, less);
     }
 
-    pub piped_end : (budget executed : ℕ) (step : Step) (e : End) (now : Spot turns) (rest : Option (List ℕ)) (has : List ℕ → Type 0)
+    pub piped_end : (budget executed : ℕ) (step : Step) (e : End) (now : Progress handler) (rest : Option (List ℕ)) (has : List ℕ → Type 0)
         → executed ≡ now.executed → taken < budget → taken + step.taken ≤ budget → step.end ≡ Some e → (step.end ≡ Some end.Budget → ⊥)
         → IsUpToDate mid → fed mid.reader ≡ taken → step.taken ≤ PIECE
         → Pumped step between rest mid now has' has
-        → PipedBy turns limits budget (record { executed = executed; taken = taken + step.taken; end = e }) from now.world left rest had has
+        → PipedWith handler limits budget (record { executed = executed; taken = taken + step.taken; end = e }) from now.world left rest had has
     piped_end budget executed step e now rest has done less within is unspent current fed_is piece pumped =
         piped_last budget executed step.taken e now rest has done less within (λ same. unspent (is ∙ ap Some same)) current fed_is piece
         (subst (λ (o : Option End). Pumped (record { taken = step.taken; end = o }) between rest mid now has' has) is pumped)
 
     -- the budget is used up
     pub piped_budget : (budget executed : ℕ) → executed ≡ mid.executed → taken ≡ budget → IsUpToDate mid
-        → PipedBy turns limits budget (record { executed = executed; taken = taken; end = end.Budget }) from mid.world left between had has'
+        → PipedWith handler limits budget (record { executed = executed; taken = taken; end = end.Budget }) from mid.world left between had has'
     piped_budget budget executed done spent current = record {
       bytes = so_far.bytes;
       last = mid;
@@ -168,29 +168,29 @@ module _ {turns : Turns} where
       world = refl;
       executed = sym done;
       ends = (so_far.went, current);
-      near = tt;
+      read_bound = tt;
       below = λ same. (cc);
     }
 
   -- out of memory for the session
-  pub piped_none : (limits : WireLimits) (budget : ℕ) (from : turns.World) (left : Option (List ℕ)) (has : List ℕ → Type 0)
-      → PipedBy turns limits budget (record { executed = 0; taken = 0; end = end.Memory }) from from left left has has
+  pub piped_none : (limits : WireLimits) (budget : ℕ) (from : handler.World) (left : Option (List ℕ)) (has : List ℕ → Type 0)
+      → PipedWith handler limits budget (record { executed = 0; taken = 0; end = end.Memory }) from from left left has has
   piped_none limits budget from left has = record {
     bytes = [];
-    last = beginning_of turns limits from;
+    last = beginning_of handler limits from;
     count = refl;
     within = omega arith;
     spent = λ same. (cc);
     took = Consumes-nil left;
     world = refl;
     executed = refl;
-    ends = not_fed (beginning_of turns limits from) (beginning_of turns limits from) has [] refl refl;
-    near = tt;
+    ends = not_fed (beginning_of handler limits from) (beginning_of handler limits from) has [] refl refl;
+    read_bound = tt;
     below = λ same. (cc);
   }
 
   -- how the input continues or ends, by the session's result
-  abbrev ends_by : (answer : Go) (rest : Option (List ℕ)) (old new : Spot turns) (had has : List ℕ → Type 0) (bytes : List ℕ) → WentAs answer old new had has bytes → EndsOr (end_by answer) rest old new had has bytes
+  abbrev ends_by : (answer : Go) (rest : Option (List ℕ)) (old new : Progress handler) (had has : List ℕ → Type 0) (bytes : List ℕ) → HandledAs answer old new had has bytes → EndsOr (end_by answer) rest old new had has bytes
   ends_by go.More rest old new had has bytes goes = goes
   ends_by go.Quit rest old new had has bytes goes = inr goes
   ends_by (go.Broken fault) rest old new had has bytes goes = goes
@@ -198,7 +198,7 @@ module _ {turns : Turns} where
   ends_by go.Memory rest old new had has bytes goes = goes
 
   -- no result of the session is the end of the input
-  no_end : (answer : Go) (rest : Option (List ℕ)) (old new : Spot turns) (had has : List ℕ → Type 0) (bytes : List ℕ) (goes : WentAs answer old new had has bytes)
+  no_end : (answer : Go) (rest : Option (List ℕ)) (old new : Progress handler) (had has : List ℕ → Type 0) (bytes : List ℕ) (goes : HandledAs answer old new had has bytes)
       → has_ended (end_by answer) rest old new had has bytes (ends_by answer rest old new had has bytes goes) ≡ true → ⊥
   no_end go.More rest old new had has bytes goes same = (cc)
   no_end go.Quit rest old new had has bytes goes same = (cc)
@@ -207,8 +207,8 @@ module _ {turns : Turns} where
   no_end go.Memory rest old new had has bytes goes same = (cc)
 
   -- a read returned some bytes, and their requests were handled
-  pub pumped_piece : (answer : Go) (e : Option End) (taken : ℕ) (old new : Spot turns) (left rest : Option (List ℕ)) (had has : List ℕ → Type 0) (bytes : List ℕ) → e ≡ end_by answer
-      → length bytes ≡ taken → Consumes left rest bytes → WentAs answer old new had has bytes → Pumped (record { taken = taken; end = e }) left rest old new had has
+  pub pumped_piece : (answer : Go) (e : Option End) (taken : ℕ) (old new : Progress handler) (left rest : Option (List ℕ)) (had has : List ℕ → Type 0) (bytes : List ℕ) → e ≡ end_by answer
+      → length bytes ≡ taken → Consumes left rest bytes → HandledAs answer old new had has bytes → Pumped (record { taken = taken; end = e }) left rest old new had has
   pumped_piece answer e taken old new left rest had has bytes is count took goes =
       subst (λ (x : Option End). Pumped (record { taken = taken; end = x }) left rest old new had has) (sym is) (record {
         bytes = bytes;
@@ -219,7 +219,7 @@ module _ {turns : Turns} where
       })
 
   -- a read failed
-  pub pumped_fault : (now : Spot turns) (left rest : Option (List ℕ)) (has : List ℕ → Type 0) → Keeps left rest → IsUpToDate now
+  pub pumped_fault : (now : Progress handler) (left rest : Option (List ℕ)) (has : List ℕ → Type 0) → Keeps left rest → IsUpToDate now
       → Pumped (record { taken = 0; end = Some end.ReadFault }) left rest now now has has
   pumped_fault now left rest has keeps current = record {
     bytes = [];
@@ -243,11 +243,11 @@ goes_by go.WriteFault e is none = (cc)
 goes_by go.Memory e is none = (cc)
 
 -- counters that did not change before a piece have the same causes
-pub causes_from : (turns : Turns) (e : End) (first reads reads' wrote writes writes' : ℕ) (known own own' : turns.Faults) → reads ≡ first → NoFault turns wrote writes known own
-    → HasCausesBy turns e reads reads' writes writes' own own' → HasCausesBy turns e first reads' wrote writes' known own'
-causes_from turns e first reads reads' wrote writes writes' known own own' read write causes =
-    subst (λ (n : ℕ). HasCausesBy turns e n reads' wrote writes' known own') read
-    (subst (λ (n : ℕ). HasCausesBy turns e reads reads' n writes' known own') write.0 (subst (λ (f : turns.Faults). HasCausesBy turns e reads reads' writes writes' f own') write.1 causes))
+pub causes_from : (handler : Handler) (e : End) (first reads reads' wrote writes writes' : ℕ) (known own own' : handler.Faults) → reads ≡ first → NoFault handler wrote writes known own
+    → HasCausesWith handler e reads reads' writes writes' own own' → HasCausesWith handler e first reads' wrote writes' known own'
+causes_from handler e first reads reads' wrote writes writes' known own own' read write causes =
+    subst (λ (n : ℕ). HasCausesWith handler e n reads' wrote writes' known own') read
+    (subst (λ (n : ℕ). HasCausesWith handler e reads reads' n writes' known own') write.0 (subst (λ (f : handler.Faults). HasCausesWith handler e reads reads' writes writes' f own') write.1 causes))
 
 -- the plain handler has no counters of its own
 failed_plain : (before now : ℕ) (own own' : plain.Faults) → AFault plain before now own own' → (before ≤ now) × Rose before now
@@ -263,7 +263,7 @@ plain_later end.ReadFault writes writes' own own' failed fine = omega (arith, (f
 plain_later end.Memory writes writes' own own' failed fine = omega (arith, (fine (λ is. (cc))).0)
 plain_later end.Budget writes writes' own own' failed fine = omega (arith, (fine (λ is. (cc))).0)
 
-pub causes_plain : (e : End) (reads reads' writes writes' : ℕ) (own own' : plain.Faults) → HasCausesBy plain e reads reads' writes writes' own own' → HasCauses e reads reads' writes writes'
+pub causes_plain : (e : End) (reads reads' writes writes' : ℕ) (own own' : plain.Faults) → HasCausesWith plain e reads reads' writes writes' own own' → HasCauses e reads reads' writes writes'
 causes_plain e reads reads' writes writes' own own' causes = record {
   reads_later = causes.reads_later;
   writes_later = plain_later e writes writes' own own' causes.write causes.unwritten;

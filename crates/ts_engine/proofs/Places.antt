@@ -1,13 +1,13 @@
 -- Offsets of requests and errors in a stream: past bytes that contain neither.
 use Rattle.std.proofs.Common.{ℕ, ◌+◌, ◌≤◌, ◌<◌, List, [], ◌∷◌, ◌++◌, length, Option, None, Some, refl, sym, ◌∙◌, ap, subst, append-nil, arith}
 use Rattle.ts_resp.specs.Reading.{stream_of, fed, mode_of, ended_at, unfinished}
-use Rattle.ts_spec.specs.Run.{Placed, then_all}
+use Rattle.ts_spec.specs.Run.{LocatedRequest, then_all}
 use Rattle.ts_spec.specs.Wire.{Stream, Then, Ended, Inside, Broken, Mode, Start, Text, Count, CountFeed, Mark, Length, LengthFeed, Body, WordReturn, WordFeed, Move, Goto, Whole, Fault, move, at_end, after_move, read_on}
 use Rattle.ts_spec.specs.declared.wire.Kind.{Kind}
 use Rattle.ts_spec.specs.declared.wire.WireLimits.{WireLimits}
 use Rattle.ts_spec.proofs.Streams.{read_on-nil, read_on-byte}
-use Rattle.ts_execution.specs.Turns.{Turns, OfLast}
-use Rattle.ts_engine.specs.Session.{Spot, Went, LastReply, IsBroken, IsUpToDate}
+use Rattle.ts_execution.specs.Handler.{Handler, LastRequest}
+use Rattle.ts_engine.specs.Session.{Progress, HandledAll, LastReply, IsBroken, IsUpToDate}
 use Rattle.ts_resp.specs.declared.protocol.Protocol.{Protocol}
 
 -- each request ends past this offset, and no error is before it
@@ -79,31 +79,31 @@ read_on-goes limits place begin mode (byte ∷ bytes) more quiet =
     (λ from next q. lower (place + 1 + length bytes) (place + length (byte ∷ bytes)) (read_on limits (place + 1) from next (bytes ++ more)) (omega arith) (read_on-goes limits (place + 1) from next bytes more q))
     (subst IsQuiet (read_on-byte limits place begin mode byte bytes (move limits mode byte) refl) quiet))
 
-last-past : (place : ℕ) (done : List Placed) (last : Placed) (rest : Stream) → IsPast place (then_all (done ++ last ∷ []) rest) → place < last.after
+last-past : (place : ℕ) (done : List LocatedRequest) (last : LocatedRequest) (rest : Stream) → IsPast place (then_all (done ++ last ∷ []) rest) → place < last.after
 last-past place [] last rest past = past.0
 last-past place (first ∷ done) last rest past = last-past place done last rest past.1
 
-fault-past : (place : ℕ) (done : List Placed) (kind : Kind) (at : ℕ) → IsPast place (then_all done (Broken kind at)) → place ≤ at
+fault-past : (place : ℕ) (done : List LocatedRequest) (kind : Kind) (at : ℕ) → IsPast place (then_all done (Broken kind at)) → place ≤ at
 fault-past place [] kind at past = past
 fault-past place (first ∷ done) kind at past = fault-past place done kind at past.1
 
-module _ {turns : Turns} where
+module _ {handler : Handler} where
   -- every complete request was handled, so all that comes is past the bytes fed
-  comes_past : (spot : Spot turns) (bytes : List ℕ) → IsUpToDate spot → IsPast (fed spot.reader) (stream_of spot.reader bytes)
-  comes_past spot bytes current =
-      let r = spot.reader in
+  comes_past : (progress_over : Progress handler) (bytes : List ℕ) → IsUpToDate progress_over → IsPast (fed progress_over.reader) (stream_of progress_over.reader bytes)
+  comes_past progress_over bytes current =
+      let r = progress_over.reader in
       read_on-goes r.limits r.place r.begin (mode_of r.so_far) r.unread bytes
       (subst (λ (l : List ℕ). IsQuiet (read_on r.limits r.place r.begin (mode_of r.so_far) l)) (append-nil r.unread)
       (subst IsQuiet (sym current.rest) (ended-quiet (unfinished r))))
 
   -- the next request ends past the bytes fed
-  pub reply_past : {said : OfLast turns} (old new : Spot turns) (had has : List ℕ → Type 0) (bytes : List ℕ) → IsUpToDate old → (cut : LastReply said old new had has bytes) → fed old.reader < cut.last.after
+  pub reply_past : {said : LastRequest handler} (old new : Progress handler) (had has : List ℕ → Type 0) (bytes : List ℕ) → IsUpToDate old → (cut : LastReply said old new had has bytes) → fed old.reader < cut.last.after
   reply_past old new had has bytes current cut =
       last-past (fed old.reader) cut.done cut.last (stream_of new.reader [])
       (subst (λ (s : Stream). IsPast (fed old.reader) s) (cut.stream []) (comes_past old (bytes ++ []) current))
 
   -- and an error is not before them
-  pub break_past : (old new : Spot turns) (had has : List ℕ → Type 0) (bytes tail : List ℕ) (fault : Protocol) → IsUpToDate old → Went old new had has bytes tail → IsBroken fault new
+  pub break_past : (old new : Progress handler) (had has : List ℕ → Type 0) (bytes tail : List ℕ) (fault : Protocol) → IsUpToDate old → HandledAll old new had has bytes tail → IsBroken fault new
       → fed old.reader ≤ fault.place
   break_past old new had has bytes tail fault current went broken =
       fault-past (fed old.reader) went.done fault.kind fault.place

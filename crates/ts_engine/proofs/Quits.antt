@@ -3,7 +3,7 @@ use Rattle.std.proofs.Common.{◌≡◌, Bool, true, false, if◌then◌else◌,
 use Rattle.std.specs.Prelude.{◌||◌}
 use Rattle.std.proofs.lemmas.Bool.{false≢true}
 use Rattle.ts_spec.specs.Wire.{Request}
-use Rattle.ts_spec.specs.Run.{Placed, requests_in, is_quit, has_quit, until_quit}
+use Rattle.ts_spec.specs.Run.{LocatedRequest, requests_in, is_quit, has_quit, until_quit}
 use Rattle.ts_spec.proofs.Runs.{requests_in-append}
 
 pub neither : (a b : Bool) → (a || b) ≡ false → (a ≡ false) × (b ≡ false)
@@ -25,7 +25,7 @@ until_quit-append (r ∷ a) b h =
     ap (λ (x : Bool). r ∷ (if x then [] else until_quit (a ++ b))) none.0 ∙ ap (λ (l : List Request). r ∷ l) (until_quit-append a b none.1)
 
 -- two lists without QUIT make one
-pub goes_on-append : (a b : List Placed) → has_quit (requests_in a) ≡ false → has_quit (requests_in b) ≡ false → has_quit (requests_in (a ++ b)) ≡ false
+pub goes_on-append : (a b : List LocatedRequest) → has_quit (requests_in a) ≡ false → has_quit (requests_in b) ≡ false → has_quit (requests_in (a ++ b)) ≡ false
 goes_on-append a b one two = ap has_quit (requests_in-append a b) ∙ has_quit-append (requests_in a) (requests_in b) one ∙ two
 
 -- a single request that is not QUIT

@@ -2,7 +2,7 @@
 use Rattle.std.proofs.Common.{ℕ, List, [], ◌∷◌, ◌++◌, refl, sym, ap, subst}
 use Rattle.ts_mux.specs.declared.frame.Frame.{Frame}
 use Rattle.ts_mux.specs.Order.{Item}
-use Rattle.ts_execution.specs.Turn.{World}
+use Rattle.ts_execution.specs.Handling.{World}
 use Rattle.ts_engine.specs.Replies.{IsReply, Replies, reply_frame}
 
 pub Replies-append : (from mid to : World) (before after : List Item) (some others : List Frame)

@@ -11,10 +11,10 @@ use Rattle.ts_engine.specs.declared.piped.End.{End}
 use Rattle.ts_engine.specs.declared.piped.End.TheVariants as end
 use Rattle.ts_engine.specs.declared.piped.Outcome.{Outcome}
 use Rattle.ts_words.specs.declared.status.Status.TheVariants as status
-use Rattle.ts_execution.specs.Turns.{Turns}
+use Rattle.ts_execution.specs.Handler.{Handler}
 use Rattle.ts_engine.specs.Headline.{Exchange, ending, asks_to_quit}
-use Rattle.ts_engine.specs.Piping.{beginning_of, Ends, is_of_input, PipedBy, HasCauses}
-use Rattle.ts_engine.specs.Session.{Spot}
+use Rattle.ts_engine.specs.Piping.{beginning_of, Ends, is_of_input, PipedWith, HasCauses}
+use Rattle.ts_engine.specs.Session.{Progress}
 use Rattle.ts_engine.specs.Status.{status_of}
 use Rattle.ts_engine.specs.Top.{status_cut}
 use Rattle.ts_engine.proofs.Headlines.{splits, no_quit, ends_as, front_answered, quitted_all}
@@ -31,7 +31,7 @@ unbroken quits stream None none is = sym (ap (λ (s : Stream). status_cut quits 
 unbroken quits stream (Some place) none is = sym (ap (λ (s : Stream). status_cut quits s) is ∙ ap (λ (b : Bool). status_cut b (ended_at (Some place))) none)
 
 -- the end of the input was read, so nothing is left
-at_end : {turns : Turns} (e : End) (left : Option (List ℕ)) (old new : Spot turns) (had has : List ℕ → Type 0) (bytes : List ℕ) (ends : Ends e left old new had has bytes)
+at_end : {handler : Handler} (e : End) (left : Option (List ℕ)) (old new : Progress handler) (had has : List ℕ → Type 0) (bytes : List ℕ) (ends : Ends e left old new had has bytes)
     → is_of_input e left old new had has bytes ends ≡ true → IsAtEnd left
 at_end end.Ended left old new had has bytes (inl all) same = all.at_end
 at_end end.Ended left old new had has bytes (inr quitted) same = (cc)
@@ -43,9 +43,9 @@ at_end end.Memory left old new had has bytes ends same = (cc)
 at_end end.Budget left old new had has bytes ends same = (cc)
 
 -- by what was answered of the bytes read
-module _ {turns : Turns} (exchange : Exchange turns) (last : Spot turns) (at : last.world ≡ exchange.to) (left : Option (List ℕ)) (first front more : List ℕ) (is : first ≡ front ++ more) where
-  by_first : (e : End) (reads reads' writes writes' : ℕ) (ends : Ends e left (beginning_of turns exchange.limits exchange.from) last exchange.had exchange.has front)
-      → (is_of_input e left (beginning_of turns exchange.limits exchange.from) last exchange.had exchange.has front ends ≡ true → ⊥) → (e ≡ end.Budget → more ≡ [])
+module _ {handler : Handler} (exchange : Exchange handler) (last : Progress handler) (at : last.world ≡ exchange.to) (left : Option (List ℕ)) (first front more : List ℕ) (is : first ≡ front ++ more) where
+  by_first : (e : End) (reads reads' writes writes' : ℕ) (ends : Ends e left (beginning_of handler exchange.limits exchange.from) last exchange.had exchange.has front)
+      → (is_of_input e left (beginning_of handler exchange.limits exchange.from) last exchange.had exchange.has front ends ≡ true → ⊥) → (e ≡ end.Budget → more ≡ [])
       → HasCauses e reads reads' writes writes' → (Rose reads reads' → ⊥) → (Rose writes writes' → ⊥)
       → (status_of e ≡ status.Memory) ⊎ (status_of e ≡ status_cut (asks_to_quit exchange.limits first) (ending exchange.limits first))
   by_first end.Ended reads reads' writes writes' (inl all) unread none causes no_read no_write = absurd (unread refl)
@@ -65,8 +65,8 @@ module _ {turns : Turns} (exchange : Exchange turns) (last : Spot turns) (at : l
       (ap (ending exchange.limits) same ∙ answered.unbroken))
 
 -- a run of `pipe` from the empty database, on an input whose bytes are known
-module _ {turns : Turns} (exchange : Exchange turns) (budget : ℕ) (outcome : Outcome) (bytes : List ℕ) (left : Option (List ℕ))
-    (piped : PipedBy turns exchange.limits budget outcome exchange.from exchange.to (Some bytes) left exchange.had exchange.has) where
+module _ {handler : Handler} (exchange : Exchange handler) (budget : ℕ) (outcome : Outcome) (bytes : List ℕ) (left : Option (List ℕ))
+    (piped : PipedWith handler exchange.limits budget outcome exchange.from exchange.to (Some bytes) left exchange.had exchange.has) where
   by_piped : (reads reads' writes writes' : ℕ) → HasCauses outcome.end reads reads' writes writes' → budget ≤ length bytes → (Rose reads reads' → ⊥) → (Rose writes writes' → ⊥)
       → (status_of outcome.end ≡ status.Memory) ⊎ (status_of outcome.end ≡ status_cut (asks_to_quit exchange.limits (take budget bytes)) (ending exchange.limits (take budget bytes)))
   by_piped reads reads' writes writes' causes enough no_read no_write =
@@ -75,7 +75,7 @@ module _ {turns : Turns} (exchange : Exchange turns) (budget : ℕ) (outcome : O
       by_first exchange piped.last piped.world left (take budget bytes) piped.bytes (take (budget - length piped.bytes) split.0)
       (ap (take budget) split.1 ∙ first_bytes piped.bytes split.0 budget within) outcome.end reads reads' writes writes' piped.ends
       (λ read.
-      let none : split.0 ≡ [] = subst IsAtEnd split.2 (at_end outcome.end left (beginning_of turns exchange.limits exchange.from) piped.last exchange.had exchange.has piped.bytes piped.ends read) in
+      let none : split.0 ≡ [] = subst IsAtEnd split.2 (at_end outcome.end left (beginning_of handler exchange.limits exchange.from) piped.last exchange.had exchange.has piped.bytes piped.ends read) in
       let below : outcome.taken < budget = piped.below read in
       absurd (omega (arith, ap length split.1, length-append piped.bytes split.0, ap length none, piped.count, below, enough)))
       (λ is.
@@ -83,10 +83,10 @@ module _ {turns : Turns} (exchange : Exchange turns) (budget : ℕ) (outcome : O
       ap (λ (n : ℕ). take n split.0) all)
       causes no_read no_write
 
-pub by_budget : {turns : Turns} (exchange : Exchange turns) (budget : ℕ) (outcome : Outcome) (bytes : List ℕ) (told left : Option (List ℕ)) → told ≡ Some bytes
-    → PipedBy turns exchange.limits budget outcome exchange.from exchange.to told left exchange.had exchange.has
+pub by_budget : {handler : Handler} (exchange : Exchange handler) (budget : ℕ) (outcome : Outcome) (bytes : List ℕ) (told left : Option (List ℕ)) → told ≡ Some bytes
+    → PipedWith handler exchange.limits budget outcome exchange.from exchange.to told left exchange.had exchange.has
     → (reads reads' writes writes' : ℕ) → HasCauses outcome.end reads reads' writes writes' → budget ≤ length bytes → (Rose reads reads' → ⊥) → (Rose writes writes' → ⊥)
     → (status_of outcome.end ≡ status.Memory) ⊎ (status_of outcome.end ≡ status_cut (asks_to_quit exchange.limits (take budget bytes)) (ending exchange.limits (take budget bytes)))
-by_budget {turns} exchange budget outcome bytes told left tells piped =
+by_budget {handler} exchange budget outcome bytes told left tells piped =
     by_piped exchange budget outcome bytes left
-    (subst (λ (o : Option (List ℕ)). PipedBy turns exchange.limits budget outcome exchange.from exchange.to o left exchange.had exchange.has) tells piped)
+    (subst (λ (o : Option (List ℕ)). PipedWith handler exchange.limits budget outcome exchange.from exchange.to o left exchange.had exchange.has) tells piped)

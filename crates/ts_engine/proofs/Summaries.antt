@@ -10,8 +10,8 @@ use Rattle.ts_spec.specs.Limits.{usual}
 use Rattle.ts_spec.specs.declared.limits.Limits.{Limits}
 use Rattle.ts_spec.specs.declared.wire.WireLimits.{WireLimits}
 use Rattle.ts_gen.specs.Workload.{script}
-use Rattle.ts_db.specs.Held.{Held}
-use Rattle.ts_execution.specs.Turn.{World, turn, plain}
+use Rattle.ts_db.specs.DbState.{DbState}
+use Rattle.ts_execution.specs.Handling.{World, handles, plain}
 use Rattle.ts_engine.specs.declared.piped.End.{End}
 use Rattle.ts_engine.specs.declared.piped.End.TheVariants as end
 use Rattle.ts_engine.specs.declared.piped.Outcome.{Outcome}
@@ -24,7 +24,7 @@ use Rattle.ts_engine.proofs.Sessions.{grows_as}
 -- all requests were handled, as many as were executed, and the output has all their replies
 pub record RanAll (limits : Limits) (readings : Option (List ℕ)) (bytes : List ℕ) (executed : ℕ) (to : World) (had has : List ℕ → Type 0) : Type 0 where
   pub text : List ℕ
-  pub run : Runs turn (start limits readings) (requests limits.wire bytes) text to
+  pub run : Runs handles (start limits readings) (requests limits.wire bytes) text to
   pub executed_is : executed ≡ length (requests limits.wire bytes)
   pub grown : Grows had has text
 
@@ -58,7 +58,7 @@ same_six : (a b c d e f a' b' c' d' e' f' : ℕ) → a ≡ a' → b ≡ b' → c
 same_six a b c d e f a' b' c' d' e' f' p q r s t u = rw (p, q, r, s, t, u) refl
 
 -- the workload was answered to its end, and the counters are the numbers of its summary
-pub summed : (limits : Limits) (seed n : ℕ) (wire : WireLimits) (budget : ℕ) (outcome : Outcome) (held : Held) (told left readings readings' : Option (List ℕ)) (before after : Counts)
+pub summed : (limits : Limits) (seed n : ℕ) (wire : WireLimits) (budget : ℕ) (outcome : Outcome) (held : DbState) (told left readings readings' : Option (List ℕ)) (before after : Counts)
     (size total errors keys samples : ℕ) → wire ≡ usual.wire → told ≡ Some (script seed n) → readings ≡ Some [] → before ≡ counts_of [] → outcome.end ≡ end.Ended
     → Piped wire budget outcome (start (record limits { wire = wire }) readings) (record { held = held; readings = readings' }) told left (λ w. before ≡ counts_of w) (λ w. after ≡ counts_of w)
     → size ≡ length (script seed n) → total ≡ after.total → errors ≡ after.errors → keys ≡ count_keys held.state → samples ≡ total_shown held.state

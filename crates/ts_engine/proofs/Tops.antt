@@ -9,7 +9,7 @@ use Rattle.ts_words.specs.Modes.{same, mode_of}
 use Rattle.ts_words.specs.declared.mode.Mode.TheVariants as mode
 use Rattle.ts_words.specs.declared.status.Status.{Status}
 use Rattle.ts_words.specs.declared.status.Status.TheVariants as status
-use Rattle.ts_execution.specs.Turns.{Turns}
+use Rattle.ts_execution.specs.Handler.{Handler}
 use Rattle.ts_engine.specs.Piping.{HasCauses}
 use Rattle.ts_engine.specs.Status.{status_of}
 use Rattle.ts_engine.specs.Top.{status_by, status_at}
@@ -20,7 +20,7 @@ by_ending : (quits : Bool) (stream end : Stream) → quits ≡ false → stream 
 by_ending quits stream end none is = ap status_at (sym is) ∙ ap (λ (b : Bool). status_by b stream) (sym none)
 
 -- no fault counter rose and the budget is not reached, so the status is that of the grammar, or out of memory
-pub by_grammar : {turns : Turns} (exchange : Exchange turns) (budget : ℕ) (bytes : List ℕ) (left : Option (List ℕ)) (e : End) (reads reads' writes writes' : ℕ)
+pub by_grammar : {handler : Handler} (exchange : Exchange handler) (budget : ℕ) (bytes : List ℕ) (left : Option (List ℕ)) (e : End) (reads reads' writes writes' : ℕ)
     → Writes exchange budget bytes left e → HasCauses e reads reads' writes writes' → length bytes < budget → (Rose reads reads' → ⊥) → (Rose writes writes' → ⊥)
     → (status_of e ≡ status.Memory) ⊎ (status_of e ≡ status_by (asks_to_quit exchange.limits bytes) (ending exchange.limits bytes))
 by_grammar exchange budget bytes left end.Ended reads reads' writes writes' (inl all) causes below no_read no_write =

@@ -8,10 +8,10 @@ use Rattle.ts_words.specs.declared.mode.Mode.{Mode}
 use Rattle.ts_words.specs.declared.mode.Mode.TheVariants.{Serve, Gen}
 use Rattle.ts_words.specs.declared.status.Status.{Status}
 use Rattle.ts_words.specs.declared.status.Status.TheVariants as status
-use Rattle.ts_db.specs.Held.{Held}
+use Rattle.ts_db.specs.DbState.{DbState}
 use Rattle.ts_engine.specs.declared.serving.Served.{Served}
 use Rattle.ts_engine.specs.declared.serving.Served.TheVariants.{Done, AcceptFault, WriteFault}
-use Rattle.ts_engine.specs.Headline.{Seen, start}
+use Rattle.ts_engine.specs.Headline.{RunView, start}
 use Rattle.ts_engine.specs.Serving.{StreamViews, Serves}
 use Rattle.ts_engine.specs.Top.{Reports}
 
@@ -35,16 +35,16 @@ status_served WriteFault = status.WriteFault
 
 -- Connections were served, the first on the empty database, and the ending was reported. If all were served and their
 -- lines written, the status is the good one.
-pub record Connections {I O : Type 0} (views : StreamViews I O) (seen : Seen) (budget most : ℕ) (coming coming' closed closed' : Option (List (Ends I O))) (had has : List ℕ → Type 0) (given : Status) : Type 0 where
+pub record Connections {I O : Type 0} (views : StreamViews I O) (seen : RunView) (budget most : ℕ) (coming coming' closed closed' : Option (List (Ends I O))) (had has : List ℕ → Type 0) (given : Status) : Type 0 where
   pub served : Served
-  pub held : Held
+  pub held : DbState
   pub serves : Serves views seen.limits.wire budget served 1 most (start seen.limits seen.readings) (record { held = held; readings = seen.readings_left }) coming coming' closed closed' seen.had seen.has
   pub reported : Reports (status_served served) 0 given had has
   pub quiet : served ≡ Done → given ≡ status.Ended
 
 -- All `most` connections were served, the first on the empty database, and their lines were written. The status is the
 -- good one.
-pub record AllServed {I O : Type 0} (views : StreamViews I O) (seen : Seen) (budget most : ℕ) (coming coming' closed closed' : Option (List (Ends I O))) (given : Status) : Type 0 where
+pub record AllServed {I O : Type 0} (views : StreamViews I O) (seen : RunView) (budget most : ℕ) (coming coming' closed closed' : Option (List (Ends I O))) (given : Status) : Type 0 where
   pub good : given ≡ status.Ended
-  pub held : Held
+  pub held : DbState
   pub serves : Serves views seen.limits.wire budget Done 1 most (start seen.limits seen.readings) (record { held = held; readings = seen.readings_left }) coming coming' closed closed' seen.had seen.has

@@ -4,7 +4,7 @@ use Rattle.std.specs.String.{string_bytes}
 use Rattle.std.specs.declared.alloc.Global.{Global}
 use Rattle.ts_io.specs.Sinks.{Grows}
 use Rattle.ts_spec.specs.declared.wire.WireLimits.{WireLimits}
-use Rattle.ts_db.specs.Held.{Held}
+use Rattle.ts_db.specs.DbState.{DbState}
 use Rattle.ts_mux.specs.declared.frame.Frame.{Frame}
 use Rattle.ts_mux.specs.Capture as capture
 use Rattle.ts_mux.specs.Capture.{Capture, frames_of, framed, all_framed}
@@ -13,10 +13,10 @@ use Rattle.ts_mux.specs.Order.{Item, order}
 use Rattle.ts_words.specs.declared.mode.Mode.TheVariants as mode
 use Rattle.ts_words.specs.declared.status.Status.{Status}
 use Rattle.ts_words.specs.declared.status.Status.TheVariants as status
-use Rattle.ts_execution.specs.Turn.{World, plain}
-use Rattle.ts_engine.specs.declared.replayed.CaptureEnd.{CaptureEnd}
-use Rattle.ts_engine.specs.declared.replayed.CaptureEnd.TheVariants as end
-use Rattle.ts_engine.specs.Headline.{Exchange, Seen, exchange_of}
+use Rattle.ts_execution.specs.Handling.{World, plain}
+use Rattle.ts_engine.specs.declared.capture_run.CaptureEnd.{CaptureEnd}
+use Rattle.ts_engine.specs.declared.capture_run.CaptureEnd.TheVariants as end
+use Rattle.ts_engine.specs.Headline.{Exchange, RunView, exchange_of}
 use Rattle.ts_engine.specs.Replies.{Replies, IsReply, reply_frame}
 use Rattle.ts_engine.specs.Top.{ReportsIn}
 
@@ -99,8 +99,8 @@ place_of end.Budget = 0
 
 -- How a capture with these bytes was answered on the empty database. A prefix of at most `budget` bytes was read. The
 -- output is what the end says, and the end was reported. A good end always has the good status.
-pub record Captured (seen : Seen) (budget : ℕ) (bytes : List ℕ) (left : Option (List ℕ)) (had has : List ℕ → Type 0) (given : Status) : Type 0 where
-  pub held : Held
+pub record Captured (seen : RunView) (budget : ℕ) (bytes : List ℕ) (left : Option (List ℕ)) (had has : List ℕ → Type 0) (given : Status) : Type 0 where
+  pub held : DbState
   pub ended : CaptureEnd
   pub front : List ℕ
   pub rest : List ℕ

@@ -1,7 +1,7 @@
 -- What `top` does in the mode `gen`.
 use Rattle.std.specs.Prelude.{◌≡◌, ℕ, List, [], ◌∷◌, length, Some}
 use Rattle.ts_io.specs.Counts.{counts_of}
-use Rattle.ts_io.specs.Sinks.{Grows, GrowsByFront}
+use Rattle.ts_io.specs.Sinks.{Grows, GrowsByPrefix}
 use Rattle.ts_spec.specs.Keyed.{count_keys}
 use Rattle.ts_spec.specs.Limits.{usual}
 use Rattle.ts_spec.specs.Run.{Runs}
@@ -11,7 +11,7 @@ use Rattle.ts_gen.specs.Workload.{script}
 use Rattle.ts_words.specs.Lines.{summary_of}
 use Rattle.ts_words.specs.declared.status.Status.{Status}
 use Rattle.ts_words.specs.declared.status.Status.TheVariants as status
-use Rattle.ts_execution.specs.Turn.{World, turn}
+use Rattle.ts_execution.specs.Handling.{World, handles}
 use Rattle.ts_engine.specs.Headline.{requests, start}
 use Rattle.ts_engine.specs.Top.{Reports}
 
@@ -25,29 +25,29 @@ with_usual_wire limits = record limits { wire = usual.wire }
 pub record IsSummary (limits : Limits) (seed n : ℕ) (numbers : List ℕ) : Type 0 where
   pub text : List ℕ
   pub to : World
-  pub run : Runs turn (start (with_usual_wire limits) (Some [])) (requests usual.wire (script seed n)) text to
+  pub run : Runs handles (start (with_usual_wire limits) (Some [])) (requests usual.wire (script seed n)) text to
   pub are : numbers ≡ length (requests usual.wire (script seed n)) ∷ length (script seed n) ∷ (counts_of text).total ∷ (counts_of text).errors
       ∷ count_keys to.held.state ∷ total_shown to.held.state ∷ []
 
 -- what the output has of the summary, by the intended status: all of it, a prefix, or nothing
-abbrev pub Sums : (meant : Status) → Limits → (seed n : ℕ) → (had has : List ℕ → Type 0) → Type 0
-Sums status.Ended limits seed n had has = (numbers : List ℕ) × IsSummary limits seed n numbers × Grows had has (summary_of numbers)
-Sums status.WriteFault limits seed n had has = (numbers : List ℕ) × IsSummary limits seed n numbers × GrowsByFront had has (summary_of numbers)
-Sums status.Memory limits seed n had has = Grows had has []
-Sums status.Usage limits seed n had has = ⊥
-Sums status.Truncated limits seed n had has = ⊥
-Sums status.Protocol limits seed n had has = ⊥
-Sums status.ReadFault limits seed n had has = ⊥
-Sums status.AcceptFault limits seed n had has = ⊥
-Sums status.Budget limits seed n had has = ⊥
-Sums status.JournalFault limits seed n had has = ⊥
-Sums status.JournalBroken limits seed n had has = ⊥
-Sums status.CaptureBroken limits seed n had has = ⊥
+abbrev pub WritesSummary : (meant : Status) → Limits → (seed n : ℕ) → (had has : List ℕ → Type 0) → Type 0
+WritesSummary status.Ended limits seed n had has = (numbers : List ℕ) × IsSummary limits seed n numbers × Grows had has (summary_of numbers)
+WritesSummary status.WriteFault limits seed n had has = (numbers : List ℕ) × IsSummary limits seed n numbers × GrowsByPrefix had has (summary_of numbers)
+WritesSummary status.Memory limits seed n had has = Grows had has []
+WritesSummary status.Usage limits seed n had has = ⊥
+WritesSummary status.Truncated limits seed n had has = ⊥
+WritesSummary status.Protocol limits seed n had has = ⊥
+WritesSummary status.ReadFault limits seed n had has = ⊥
+WritesSummary status.AcceptFault limits seed n had has = ⊥
+WritesSummary status.Budget limits seed n had has = ⊥
+WritesSummary status.JournalFault limits seed n had has = ⊥
+WritesSummary status.JournalBroken limits seed n had has = ⊥
+WritesSummary status.CaptureBroken limits seed n had has = ⊥
 
 -- What was written of a workload's summary, and how that was reported. If all of it was written, the status is the good
 -- one.
 pub record Workload (limits : Limits) (seed n : ℕ) (had has err_had err_has : List ℕ → Type 0) (given : Status) : Type 0 where
   pub meant : Status
-  pub sums : Sums meant limits seed n had has
+  pub sums : WritesSummary meant limits seed n had has
   pub reported : Reports meant 0 given err_had err_has
   pub quiet : meant ≡ status.Ended → given ≡ status.Ended

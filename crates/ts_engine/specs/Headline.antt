@@ -6,14 +6,14 @@ use Rattle.ts_io.specs.Sinks.{Grows}
 use Rattle.ts_resp.specs.Reading.{ended_at}
 use Rattle.ts_spec.specs.Run.{Runs, has_quit, until_quit}
 use Rattle.ts_spec.specs.State.{empty}
-use Rattle.ts_spec.specs.Text.{fault_text}
+use Rattle.ts_spec.specs.Text.{protocol_error_text}
 use Rattle.ts_spec.specs.Wire.{Request, Stream, Ended, Inside, Broken, stream_at, requests_of, ending_of}
 use Rattle.ts_spec.specs.declared.wire.Kind.{Kind}
 use Rattle.ts_spec.specs.declared.limits.Limits.{Limits}
 use Rattle.ts_spec.specs.declared.wire.WireLimits.{WireLimits}
-use Rattle.ts_db.specs.Held.{Held}
-use Rattle.ts_execution.specs.Turn.{World, plain}
-use Rattle.ts_execution.specs.Turns.{Turns}
+use Rattle.ts_db.specs.DbState.{DbState}
+use Rattle.ts_execution.specs.Handling.{World, plain}
+use Rattle.ts_execution.specs.Handler.{Handler}
 use Rattle.ts_engine.specs.declared.piped.End.{End}
 use Rattle.ts_engine.specs.declared.piped.End.TheVariants as end
 
@@ -34,15 +34,15 @@ abbrev pub start : Limits → Option (List ℕ) → World
 start limits readings = record { held = record { limits = limits; state = empty }; readings = readings }
 
 -- an exchange of requests and replies: the wire limits, the worlds before and after, and the output before and after
-pub record Exchange (turns : Turns) : Type 1 where
+pub record Exchange (handler : Handler) : Type 1 where
   pub limits : WireLimits
-  pub from : turns.World
-  pub to : turns.World
+  pub from : handler.World
+  pub to : handler.World
   pub had : List ℕ → Type 0
   pub has : List ℕ → Type 0
 
 -- what a run shows: its limits, the clock readings before and after, and the output before and after
-pub record Seen : Type 1 where
+pub record RunView : Type 1 where
   pub limits : Limits
   pub readings : Option (List ℕ)
   pub readings_left : Option (List ℕ)
@@ -50,7 +50,7 @@ pub record Seen : Type 1 where
   pub has : List ℕ → Type 0
 
 -- the exchange of such a run with the plain handler, from the empty database to `held`
-abbrev pub exchange_of : Seen → Held → Exchange plain
+abbrev pub exchange_of : RunView → DbState → Exchange plain
 exchange_of seen held = record {
   limits = seen.limits.wire;
   from = start seen.limits seen.readings;
@@ -59,11 +59,11 @@ exchange_of seen held = record {
   has = seen.has;
 }
 
-module _ {turns : Turns} (exchange : Exchange turns) where
+module _ {handler : Handler} (exchange : Exchange handler) where
   -- the output has the replies to all requests in these bytes, then the tail
   pub record AllAnswered (bytes tail : List ℕ) : Type 0 where
     pub text : List ℕ
-    pub run : Runs turns.turn exchange.from (requests exchange.limits bytes) text exchange.to
+    pub run : Runs handler.handles exchange.from (requests exchange.limits bytes) text exchange.to
     pub grown : Grows exchange.had exchange.has (text ++ tail)
 
   -- the output has the replies to the first requests in these bytes
@@ -72,7 +72,7 @@ module _ {turns : Turns} (exchange : Exchange turns) where
     pub others : List Request
     pub first : requests exchange.limits bytes ≡ done ++ others
     pub text : List ℕ
-    pub run : Runs turns.turn exchange.from done text exchange.to
+    pub run : Runs handler.handles exchange.from done text exchange.to
     pub grown : Grows exchange.had exchange.has text
 
   -- the same, but the last reply is cut short
@@ -82,11 +82,11 @@ module _ {turns : Turns} (exchange : Exchange turns) where
     pub others : List Request
     pub first : requests exchange.limits bytes ≡ done ++ last ∷ others
     pub text : List ℕ
-    pub mid : turns.World
+    pub mid : handler.World
     pub reply : List ℕ
     pub kept : ℕ
-    pub run : Runs turns.turn exchange.from done text mid
-    pub turned : turns.cut mid last reply kept exchange.to
+    pub run : Runs handler.handles exchange.from done text mid
+    pub turned : handler.cut mid last reply kept exchange.to
     pub grown : Grows exchange.had exchange.has (text ++ take kept reply)
 
   -- the output has the replies to all requests, then a prefix of the protocol error
@@ -96,10 +96,10 @@ module _ {turns : Turns} (exchange : Exchange turns) where
     pub kept : ℕ
     pub broken : ending exchange.limits bytes ≡ Broken kind place
     pub goes_on : asks_to_quit exchange.limits bytes ≡ false
-    pub answered : AllAnswered bytes (take kept (fault_text kind))
+    pub answered : AllAnswered bytes (take kept (protocol_error_text kind))
 
   -- A prefix of the bytes was read, and all its requests were answered. It contains no protocol error and no QUIT.
-  pub record FrontAnswered (bytes : List ℕ) (left : Option (List ℕ)) : Type 0 where
+  pub record PrefixAnswered (bytes : List ℕ) (left : Option (List ℕ)) : Type 0 where
     pub front : List ℕ
     pub rest : List ℕ
     pub split : bytes ≡ front ++ rest
@@ -121,9 +121,9 @@ module _ {turns : Turns} (exchange : Exchange turns) where
   abbrev pub Writes : (budget : ℕ) → List ℕ → Option (List ℕ) → End → Type 0
   Writes budget bytes left end.Ended = WholeAnswered bytes left Ended ⊎ (AllAnswered bytes [] × (asks_to_quit exchange.limits bytes ≡ true))
   Writes budget bytes left (end.Truncated place) = WholeAnswered bytes left (Inside place)
-  Writes budget bytes left (end.Protocol fault) = AllAnswered bytes (fault_text fault.kind) × (asks_to_quit exchange.limits bytes ≡ false) × (ending exchange.limits bytes ≡ Broken fault.kind fault.place)
-  Writes budget bytes left end.ReadFault = FrontAnswered bytes left
-  Writes budget bytes left end.Budget = (front : FrontAnswered bytes left) × (length front.front ≡ budget)
+  Writes budget bytes left (end.Protocol fault) = AllAnswered bytes (protocol_error_text fault.kind) × (asks_to_quit exchange.limits bytes ≡ false) × (ending exchange.limits bytes ≡ Broken fault.kind fault.place)
+  Writes budget bytes left end.ReadFault = PrefixAnswered bytes left
+  Writes budget bytes left end.Budget = (front : PrefixAnswered bytes left) × (length front.front ≡ budget)
   Writes budget bytes left end.Memory = SomeAnswered bytes
   Writes budget bytes left end.WriteFault = LastCut bytes ⊎ FaultCut bytes
 

@@ -2,13 +2,13 @@
 use Rattle.std.specs.Prelude.{◌≡◌, ℕ, List, [], ◌∷◌}
 use Rattle.ts_mux.specs.declared.frame.Frame.{Frame}
 use Rattle.ts_mux.specs.Order.{Event, Asked, Failed, Item}
-use Rattle.ts_spec.specs.Text.{fault_text}
-use Rattle.ts_execution.specs.Turn.{World, turn}
+use Rattle.ts_spec.specs.Text.{protocol_error_text}
+use Rattle.ts_execution.specs.Handling.{World, handles}
 
 -- the text of a reply: a request is handled; an error is reported and changes nothing
 abbrev pub IsReply : World → Event → List ℕ → World → Type 0
-IsReply from (Asked request) text to = turn from request text to
-IsReply from (Failed fault) text to = (text ≡ fault_text fault.kind) × (to ≡ from)
+IsReply from (Asked request) text to = handles from request text to
+IsReply from (Failed fault) text to = (text ≡ protocol_error_text fault.kind) × (to ≡ from)
 
 -- the frame of a reply to an item's connection
 abbrev pub reply_frame : Item → List ℕ → Frame

@@ -8,7 +8,7 @@ use Rattle.ts_spec.specs.declared.wire.WireLimits.{WireLimits}
 use Rattle.ts_words.specs.Lines.{link_line_of}
 use Rattle.ts_words.specs.declared.lines.LinkEnd.{LinkEnd}
 use Rattle.ts_words.specs.declared.lines.LinkEnd.TheVariants as word
-use Rattle.ts_execution.specs.Turn.{World, plain}
+use Rattle.ts_execution.specs.Handling.{World, plain}
 use Rattle.ts_engine.specs.declared.piped.End.{End}
 use Rattle.ts_engine.specs.declared.piped.End.TheVariants as end
 use Rattle.ts_engine.specs.declared.piped.Outcome.{Outcome}
@@ -55,7 +55,7 @@ pub record StreamViews (I O : Type 0) : Type 1 where
   pub writes : O → ℕ
 
 -- the listener handed out these connections in order, and got them back closed in the same order
-pub record Handed {I O : Type 0} (links : List (Link I O)) (coming coming' closed closed' : Option (List (Ends I O))) : Type 0 where
+pub record LinksMoved {I O : Type 0} (links : List (Link I O)) (coming coming' closed closed' : Option (List (Ends I O))) : Type 0 where
   pub came : coming ≡ option_map (λ rest. map (λ link. link.came) links ++ rest) coming'
   pub back : closed' ≡ option_map (λ before. before ++ map (λ link. link.back) links) closed
 
@@ -105,5 +105,5 @@ module _ {I O : Type 0} (views : StreamViews I O) (limits : WireLimits) (budget 
   pub record Serves (served : Served) (number most : ℕ) (from to : World) (coming coming' closed closed' : Option (List (Ends I O))) (had has : List ℕ → Type 0) : Type 0 where
     pub links : List (Link I O)
     pub run : AreServed links from to
-    pub handed : Handed links coming coming' closed closed'
+    pub handed : LinksMoved links coming coming' closed closed'
     pub lines : Lines served number most links had has

@@ -2,18 +2,18 @@
 use Rattle.std.specs.Prelude.{◌≡◌, ◌⊎◌, Bool, true, false, ℕ, ◌≤◌, List, [], ◌∷◌, map, codes, Option, String}
 use Rattle.std.specs.String.{string_bytes}
 use Rattle.ts_io.specs.Causes.{Rose}
-use Rattle.ts_io.specs.Sinks.{Grows, GrowsByFront}
+use Rattle.ts_io.specs.Sinks.{Grows, GrowsByPrefix}
 use Rattle.ts_spec.specs.Wire.{Stream, Then, Ended, Inside, Broken}
 use Rattle.ts_spec.specs.declared.limits.Limits.{Limits}
 use Rattle.std.specs.declared.alloc.Global.{Global}
-use Rattle.ts_db.specs.Held.{Held}
+use Rattle.ts_db.specs.DbState.{DbState}
 use Rattle.ts_engine.specs.declared.piped.End.{End}
-use Rattle.ts_words.specs.Endings.{line_of, line_in}
+use Rattle.ts_words.specs.Endings.{line_of_status, line_of_status_in}
 use Rattle.ts_words.specs.declared.mode.Mode.{Mode}
 use Rattle.ts_words.specs.declared.status.Status.{Status}
 use Rattle.ts_words.specs.declared.status.Status.TheVariants as status
 use Rattle.ts_engine.specs.Status.{status_of, place_of}
-use Rattle.ts_engine.specs.Headline.{Seen, exchange_of, Writes}
+use Rattle.ts_engine.specs.Headline.{RunView, exchange_of, Writes}
 
 -- each limit is at least 1
 pub record AreUsable (limits : Limits) : Type 0 where
@@ -33,21 +33,21 @@ abbrev pub IsPipe : List (String Global) → Type 0
 IsPipe words = map string_bytes words ≡ codes "pipe" ∷ []
 
 -- the status is the intended one and this line was written; or a write failed within the line
-abbrev pub Tells : (line : List ℕ) → (meant : Status) → (given : Status) → (List ℕ → Type 0) → (List ℕ → Type 0) → Type 0
-Tells line meant given had has = ((given ≡ meant) × Grows had has line) ⊎ ((given ≡ status.WriteFault) × GrowsByFront had has line)
+abbrev pub WritesLine : (line : List ℕ) → (meant : Status) → (given : Status) → (List ℕ → Type 0) → (List ℕ → Type 0) → Type 0
+WritesLine line meant given had has = ((given ≡ meant) × Grows had has line) ⊎ ((given ≡ status.WriteFault) × GrowsByPrefix had has line)
 
 -- the same for the status line of the intended status, if it has one
 abbrev pub Reports : (meant : Status) → (place : ℕ) → (given : Status) → (List ℕ → Type 0) → (List ℕ → Type 0) → Type 0
-Reports meant place given had has = Tells (line_of meant place) meant given had has
+Reports meant place given had has = WritesLine (line_of_status meant place) meant given had has
 
 -- the same for its line in this mode
 abbrev pub ReportsIn : Option Mode → (meant : Status) → (place : ℕ) → (given : Status) → (List ℕ → Type 0) → (List ℕ → Type 0) → Type 0
-ReportsIn mode meant place given had has = Tells (line_in mode meant place) meant given had has
+ReportsIn mode meant place given had has = WritesLine (line_of_status_in mode meant place) meant given had has
 
 -- how an input with these bytes was answered on the empty database: the output is what the end says, and the end was
 -- reported
-pub record Headline (seen : Seen) (budget : ℕ) (bytes : List ℕ) (left : Option (List ℕ)) (had has : List ℕ → Type 0) (given : Status) : Type 0 where
-  pub held : Held
+pub record Headline (seen : RunView) (budget : ℕ) (bytes : List ℕ) (left : Option (List ℕ)) (had has : List ℕ → Type 0) (given : Status) : Type 0 where
+  pub held : DbState
   pub end : End
   pub written : Writes (exchange_of seen held) budget bytes left end
   pub reported : Reports (status_of end) (place_of end) given had has

@@ -27,7 +27,7 @@ pub(crate) fn serve_address<N: Listener, K: Sink, E: Sink, C: Clock>(
 ) -> Status
     requires limits { AreUsable limits }
     requires budget { 1 ≤ budget }
-    requires net { N.is_out net.old ≡ false }
+    requires net { N.has_open_link net.old ≡ false }
     requires links { 1 ≤ links }
     ensures served { Connections
         (record { left = N.In.left; reads = N.In.faults; has = N.Out.has; writes = N.Out.faults })
@@ -51,7 +51,7 @@ pub(crate) fn serve_address<N: Listener, K: Sink, E: Sink, C: Clock>(
           has = K.has out.new;
         })
         budget links (N.coming net.old) (N.coming net.new) (N.closed net.old) (N.closed net.new) result }
-    ensures net { N.is_out net.new ≡ false }
+    ensures net { N.has_open_link net.new ≡ false }
     ensures statuses { (result ≡ Status.Ended) ⊎ (result ≡ Status.AcceptFault) ⊎ (result ≡ Status.WriteFault) }
     ensures accept_fault { result ≡ Status.AcceptFault → Rose (N.faults net.old) (N.faults net.new) }
     ensures write_fault { result ≡ Status.WriteFault

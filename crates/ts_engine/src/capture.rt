@@ -4,7 +4,7 @@ ghost use Rattle.ts_io.specs.Causes.{Rose};
 ghost use Rattle.ts_engine.specs.Captured.{Captured, HasCaptureLine, status_captured};
 ghost use Rattle.ts_engine.specs.Top.{AreUsable, NoneRose};
 
-use crate::replayed::replay;
+use crate::capture_run::capture_session;
 use crate::status::report_in;
 use std::alloc::Global;
 use ts_db::{Db, Limits};
@@ -51,6 +51,6 @@ pub(crate) fn answer_capture<S: Source, K: Sink, E: Sink, C: Clock>(
         × (E.faults err.new ≡ E.faults err.old) }
 {
     let mut db = Db::new(alloc, limits);
-    let end = replay(alloc, &mut db, input, out, clock, limits.wire, budget);
+    let end = capture_session(alloc, &mut db, input, out, clock, limits.wire, budget);
     report_in(Some(Mode::Mux), err, end.status(), end.place())
 }

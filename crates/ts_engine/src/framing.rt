@@ -1,7 +1,7 @@
 // Writes the frames of a capture's replies.
 ghost use Rattle.std.specs.Prelude.{◌≡◌, ◌+◌, ◌≤◌, ◌++◌, length, take, OnOk, OnErr};
 ghost use Rattle.ts_io.specs.Causes.{HasCause};
-ghost use Rattle.ts_io.specs.Sinks.{Grows, GrowsByFront};
+ghost use Rattle.ts_io.specs.Sinks.{Grows, GrowsByPrefix};
 ghost use Rattle.ts_mux.specs.Capture.{framed};
 
 use ts_io::{Failed, Sink, write_all_counted};
@@ -15,7 +15,7 @@ pub(crate) fn write_frame<K: Sink>(out: &mut K, link: u32, bytes: &[u8]) -> Resu
     ensures all { OnOk result
         (Grows (K.has out.old) (K.has out.new) (framed (record { link = link; bytes = bytes.now }))) }
     ensures front { OnErr result
-        (GrowsByFront (K.has out.old) (K.has out.new) (framed (record { link = link; bytes = bytes.now }))) }
+        (GrowsByPrefix (K.has out.old) (K.has out.new) (framed (record { link = link; bytes = bytes.now }))) }
     ensures cause { HasCause (K.faults out.old) (K.faults out.new) result }
 {
     let header = Header::new(link, bytes.len());

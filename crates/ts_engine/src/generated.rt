@@ -2,8 +2,8 @@
 ghost use Rattle.std.specs.Prelude.{◌≡◌, ◌≢◌, ◌⊎◌, ◌<◌, ◌≤◌, IfSome};
 ghost use Rattle.ts_io.specs.Causes.{Rose};
 ghost use Rattle.ts_spec.specs.Totals.{total_shown};
-ghost use Rattle.ts_db.specs.Held.{Held, Stands};
-ghost use Rattle.ts_engine.specs.Generated.{IsSummary, Sums, Workload};
+ghost use Rattle.ts_db.specs.DbState.{DbState, Represents};
+ghost use Rattle.ts_engine.specs.Generated.{IsSummary, WritesSummary, Workload};
 ghost use Rattle.ts_engine.specs.Top.{AreUsable};
 
 use crate::piped::{End, pipe};
@@ -42,20 +42,20 @@ pub(crate) fn answer_workload<K: Sink, E: Sink>(
     ensures no_write_fault { result ≢ Status.WriteFault → (K.faults out.new ≡ K.faults out.old)
         × (E.faults err.new ≡ E.faults err.old) }
 {
-    let status = tell_workload(alloc, seed, n, out, limits);
+    let status = report_workload(alloc, seed, n, out, limits);
     report(err, status, 0)
 }
 
 // Runs the workload and writes its summary.
-fn tell_workload<K: Sink>(alloc: Global, seed: u64, n: u32, out: &mut K, limits: Limits) -> Status
+fn report_workload<K: Sink>(alloc: Global, seed: u64, n: u32, out: &mut K, limits: Limits) -> Status
     requires limits { AreUsable limits }
     requires changes { n ≤ 1000000 }
-    ensures sums { Sums result limits seed n (K.has out.old) (K.has out.new) }
+    ensures sums { WritesSummary result limits seed n (K.has out.old) (K.has out.new) }
     ensures statuses { (result ≡ Status.Ended) ⊎ (result ≡ Status.WriteFault) ⊎ (result ≡ Status.Memory) }
     ensures write_fault { result ≡ Status.WriteFault → Rose (K.faults out.old) (K.faults out.new) }
     ensures no_write_fault { result ≢ Status.WriteFault → K.faults out.new ≡ K.faults out.old }
 {
-    let Some(numbers) = sum_up(alloc, seed, n, limits) else {
+    let Some(numbers) = summarize(alloc, seed, n, limits) else {
         return Status::Memory;
     };
     let mut room = [0; ROOM];
@@ -66,7 +66,7 @@ fn tell_workload<K: Sink>(alloc: Global, seed: u64, n: u32, out: &mut K, limits:
 }
 
 // Runs the workload. Returns the numbers of its summary, or `None` if memory runs out.
-fn sum_up(alloc: Global, seed: u64, n: u32, limits: Limits) -> Option<[u64; 6]>
+fn summarize(alloc: Global, seed: u64, n: u32, limits: Limits) -> Option<[u64; 6]>
     requires limits { AreUsable limits }
     requires changes { n ≤ 1000000 }
     ensures { IfSome result (IsSummary limits seed n) }
@@ -107,7 +107,7 @@ fn count_samples<L: Ledger>(db: &Db, blank: Blank) -> u64
     requires name { blank.name ≡ L.name }
     requires parts { blank.parts ≡ L.parts }
     requires some { 0 < blank.parts }
-    ensures { (held : Held) → Stands db.now held → result ≡ total_shown held.state }
+    ensures { (held : DbState) → Represents db.now held → result ≡ total_shown held.state }
 {
     db.total(&mut Steps::<L>::new(blank))
 }

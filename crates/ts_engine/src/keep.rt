@@ -2,15 +2,16 @@
 ghost use Rattle.std.specs.Prelude.{◌≡◌, ◌≢◌, ◌⊎◌, ◌<◌, ◌≤◌, ℕ, false, List, length, Some};
 ghost use Rattle.ts_io.specs.Causes.{Rose};
 ghost use Rattle.ts_journal.specs.Limits.{IsBounded};
-ghost use Rattle.ts_db.specs.Held.{Carries};
-ghost use Rattle.ts_execution.specs.Keeping.{kept};
+ghost use Rattle.ts_db.specs.DbState.{Simulates};
+ghost use Rattle.ts_execution.specs.Journaling.{kept};
 ghost use Rattle.ts_execution.specs.Limits.{CanRead};
-ghost use Rattle.ts_engine.specs.Answered.{IsMemoryOr};
+ghost use Rattle.ts_engine.specs.Answered.{IsOutOfMemoryOr};
 ghost use Rattle.ts_engine.specs.Journaled as journaled;
-ghost use Rattle.ts_engine.specs.Journaled.{Journaled, HasJournalLine, HasJournalCauses, IsAnswered, Did, status_kept};
+ghost use Rattle.ts_engine.specs.Journaled.{Journaled, HasJournalLine, HasJournalCauses, IsAnswered, EndsAs};
+ghost use Rattle.ts_engine.specs.Journaled.{status_journaled};
 ghost use Rattle.ts_engine.specs.Top.{AreUsable, NoneRose};
 
-use crate::kept::{JournalEnd, pipe_kept};
+use crate::journaling::{JournalEnd, pipe_journaled};
 use crate::opened::open_journal;
 use crate::status::report_in;
 use std::alloc::Global;
@@ -22,7 +23,7 @@ use ts_words::{Mode, Status};
 // Loads the journal `name` and answers the requests of `input` on that database. Reads at most `budget` bytes of each.
 // Appends the record of each change to the journal before it writes the reply. Any status other than `Ended` writes its
 // line to `err`.
-pub(crate) fn answer_kept<S: Source, K: Sink, E: Sink, C: Clock, J: Log>(
+pub(crate) fn answer_journaled<S: Source, K: Sink, E: Sink, C: Clock, J: Log>(
     alloc: Global,
     name: &str,
     input: &mut S,
@@ -55,7 +56,7 @@ pub(crate) fn answer_kept<S: Source, K: Sink, E: Sink, C: Clock, J: Log>(
         → NoneRose (S.faults input.old) (S.faults input.new) (K.faults out.old) (K.faults out.new) (E.faults err.old)
         (E.faults err.new)
         → (Rose (J.faults log.old) (J.faults log.new) → ⊥)
-        → (result ≡ Status.Memory) ⊎ (result ≡ status_kept limits budget journal bytes) }
+        → (result ≡ Status.Memory) ⊎ (result ≡ status_journaled limits budget journal bytes) }
     ensures line { HasJournalLine (E.has err.old) (E.has err.new) result }
     ensures no_usage { result ≢ Status.Usage }
     ensures no_accept { result ≢ Status.AcceptFault }
@@ -89,7 +90,7 @@ fn keep<S: Source, K: Sink, C: Clock, J: Log>(
     requires limits { AreUsable limits }
     requires bounded { IsBounded limits.wire }
     requires budget { 1 ≤ budget }
-    ensures did { (journal bytes : List ℕ) → J.content log.old ≡ Some journal → S.left input.old ≡ Some bytes → Did
+    ensures did { (journal bytes : List ℕ) → J.content log.old ≡ Some journal → S.left input.old ≡ Some bytes → EndsAs
         (record {
           seen = record {
             limits = limits;
@@ -106,7 +107,7 @@ fn keep<S: Source, K: Sink, C: Clock, J: Log>(
     ensures complete { (journal bytes : List ℕ) → J.content log.old ≡ Some journal → S.left input.old ≡ Some bytes
         → (Rose (S.faults input.old) (S.faults input.new) → ⊥) → (Rose (K.faults out.old) (K.faults out.new) → ⊥)
         → (Rose (J.faults log.old) (J.faults log.new) → ⊥)
-        → IsMemoryOr (journaled.status_of result) (status_kept limits budget journal bytes) }
+        → IsOutOfMemoryOr (journaled.status_of result) (status_journaled limits budget journal bytes) }
     ensures causes { HasJournalCauses result (S.faults input.old) (S.faults input.new) (K.faults out.old)
         (K.faults out.new)
         (J.faults log.old) (J.faults log.new) }
@@ -132,7 +133,7 @@ fn answer_input<S: Source, K: Sink, C: Clock, J: Log>(
 ) -> JournalEnd
     requires limits { CanRead limits }
     requires budget { 1 ≤ budget }
-    ensures answered { Carries db.old db.new
+    ensures answered { Simulates db.old db.new
         (λ from to. (bytes : List ℕ) → S.left input.old ≡ Some bytes → IsAnswered result
         (λ failed. record {
           limits = limits;
@@ -148,9 +149,9 @@ fn answer_input<S: Source, K: Sink, C: Clock, J: Log>(
         (K.faults out.new)
         (J.faults log.old) (J.faults log.new) }
 {
-    let kept = pipe_kept(alloc, db, input, out, clock, log, limits, budget);
+    let kept = pipe_journaled(alloc, db, input, out, clock, log, limits, budget);
     if kept.failed {
-        JournalEnd::NotKept
+        JournalEnd::AppendFault
     } else {
         JournalEnd::Answered(kept.outcome.end)
     }

@@ -3,14 +3,14 @@
 
 mod address;
 mod capture;
+mod capture_run;
+mod capture_session;
 mod framing;
 mod generated;
+mod journaling;
 mod keep;
-mod kept;
 mod opened;
 mod piped;
-mod replay;
-mod replayed;
 mod replying;
 mod running;
 mod serving;

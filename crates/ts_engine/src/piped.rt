@@ -1,17 +1,17 @@
 // Answers a whole input.
 ghost use Rattle.std.specs.Prelude.{◌≡◌, ◌+◌, ◌<◌, ◌≤◌, ◌^◌, length, None, Some};
 ghost use Rattle.ts_resp.specs.Reading.{fed, unfinished};
-ghost use Rattle.ts_db.specs.Held.{Carries};
+ghost use Rattle.ts_db.specs.DbState.{Simulates};
 ghost use Rattle.ts_execution.specs.Limits.{CanRead};
-ghost use Rattle.ts_engine.specs.Standing.{spot_in, reader_of, ended_of, HasAnswered};
-ghost use Rattle.ts_engine.specs.Piping.{Piped, PipedBy, Pumped, HasCauses, HasCausesBy, HasCausesByOr};
+ghost use Rattle.ts_engine.specs.SessionView.{progress_in, reader_of, ended_of, HasAnswered};
+ghost use Rattle.ts_engine.specs.Piping.{Piped, PipedWith, Pumped, HasCauses, HasCausesWith, HasCausesWithOr};
 ghost use Rattle.ts_engine.specs.Ending.{end_at, end_by};
 
 use crate::replying::Go;
 use crate::session::Session;
 use std::alloc::Global;
 use ts_db::Db;
-use ts_execution::{Plain, Turns};
+use ts_execution::{Handler, Plain};
 use ts_io::{Clock, Sink, Source};
 use ts_resp::{Protocol, WireLimits};
 
@@ -68,20 +68,21 @@ pub fn pipe<S: Source, K: Sink, C: Clock>(
 ) -> Outcome
     requires limits { CanRead limits }
     requires budget { 1 ≤ budget }
-    ensures piped { Carries db.old db.new (λ from to. Piped limits budget result
-        (record { held = from; readings = C.readings clock.old }) (record { held = to; readings = C.readings clock.new })
+    ensures piped { Simulates db.old db.new (λ from to. Piped limits budget result
+        (record { held = from; readings = C.readings clock.old })
+        (record { held = to; readings = C.readings clock.new })
         (S.left input.old) (S.left input.new) (K.has out.old) (K.has out.new)) }
     ensures within { result.taken ≤ budget }
     ensures causes { HasCauses result.end (S.faults input.old) (S.faults input.new) (K.faults out.old)
         (K.faults out.new) }
 {
-    pipe_by(alloc, &mut Plain, db, input, out, clock, limits, budget)
+    pipe_with(alloc, &mut Plain, db, input, out, clock, limits, budget)
 }
 
 /// The same with any request handler.
-pub(crate) fn pipe_by<T: Turns, S: Source, K: Sink, C: Clock>(
+pub(crate) fn pipe_with<T: Handler, S: Source, K: Sink, C: Clock>(
     alloc: Global,
-    turns: &mut T,
+    handler: &mut T,
     db: &mut Db,
     input: &mut S,
     out: &mut K,
@@ -91,14 +92,14 @@ pub(crate) fn pipe_by<T: Turns, S: Source, K: Sink, C: Clock>(
 ) -> Outcome
     requires limits { CanRead limits }
     requires budget { 1 ≤ budget }
-    ensures piped { Carries db.old db.new (λ from to. PipedBy T.kind limits budget result
-        (T.world turns.old from (C.readings clock.old)) (T.world turns.new to (C.readings clock.new))
+    ensures piped { Simulates db.old db.new (λ from to. PipedWith T.kind limits budget result
+        (T.world handler.old from (C.readings clock.old)) (T.world handler.new to (C.readings clock.new))
         (S.left input.old) (S.left input.new) (K.has out.old) (K.has out.new)) }
     ensures within { result.taken ≤ budget }
-    ensures causes { HasCausesBy T.kind result.end (S.faults input.old) (S.faults input.new) (K.faults out.old)
+    ensures causes { HasCausesWith T.kind result.end (S.faults input.old) (S.faults input.new) (K.faults out.old)
         (K.faults out.new)
-        (T.own turns.old) (T.own turns.new) }
-    ensures lent { T.lent turns.new ≡ T.lent turns.old }
+        (T.own handler.old) (T.own handler.new) }
+    ensures lent { T.lent handler.new ≡ T.lent handler.old }
 {
     let Ok(mut session) = Session::new(alloc, limits) else {
         return Outcome {
@@ -112,7 +113,7 @@ pub(crate) fn pipe_by<T: Turns, S: Source, K: Sink, C: Clock>(
     while taken < budget {
         let most = (budget - taken).min(PIECE as u64) as usize;
         let piece = &mut buffer[..most];
-        let step = pump(&mut session, turns, db, input, out, clock, piece);
+        let step = pump(&mut session, handler, db, input, out, clock, piece);
         taken += step.taken as u64;
         if let Some(end) = step.end {
             return Outcome {
@@ -130,9 +131,9 @@ pub(crate) fn pipe_by<T: Turns, S: Source, K: Sink, C: Clock>(
 }
 
 // Reads one piece and answers the requests that it completes.
-fn pump<T: Turns, S: Source, K: Sink, C: Clock>(
+fn pump<T: Handler, S: Source, K: Sink, C: Clock>(
     session: &mut Session,
-    turns: &mut T,
+    handler: &mut T,
     db: &mut Db,
     input: &mut S,
     out: &mut K,
@@ -143,14 +144,15 @@ fn pump<T: Turns, S: Source, K: Sink, C: Clock>(
     requires current { HasAnswered session.old }
     requires within { fed (reader_of session.old) + length buffer.old < 2 ^ 64 }
     requires room { 0 < length buffer.old }
-    ensures pumped { Carries db.old db.new (λ from to. Pumped result (S.left input.old) (S.left input.new)
-        (spot_in T.kind session.old (T.world turns.old from (C.readings clock.old)))
-        (spot_in T.kind session.new (T.world turns.new to (C.readings clock.new))) (K.has out.old) (K.has out.new)) }
+    ensures pumped { Simulates db.old db.new (λ from to. Pumped result (S.left input.old) (S.left input.new)
+        (progress_in T.kind session.old (T.world handler.old from (C.readings clock.old)))
+        (progress_in T.kind session.new (T.world handler.new to (C.readings clock.new))) (K.has out.old)
+        (K.has out.new)) }
     ensures current { result.end ≡ None → HasAnswered session.new }
-    ensures causes { HasCausesByOr T.kind result.end (S.faults input.old) (S.faults input.new) (K.faults out.old)
+    ensures causes { HasCausesWithOr T.kind result.end (S.faults input.old) (S.faults input.new) (K.faults out.old)
         (K.faults out.new)
-        (T.own turns.old) (T.own turns.new) }
-    ensures lent { T.lent turns.new ≡ T.lent turns.old }
+        (T.own handler.old) (T.own handler.new) }
+    ensures lent { T.lent handler.new ≡ T.lent handler.old }
     ensures ended { result.end ≡ None → ended_of session.new ≡ None }
     ensures fed { result.end ≡ None → fed (reader_of session.new) ≡ fed (reader_of session.old) + result.taken }
     ensures within { result.taken ≤ length buffer.old }
@@ -163,7 +165,7 @@ fn pump<T: Turns, S: Source, K: Sink, C: Clock>(
             end: Some(end_of_input(session)),
         },
         Ok(count) => {
-            let go = session.piece_by(turns, db, &buffer[..count], clock, out);
+            let go = session.piece_with(handler, db, &buffer[..count], clock, out);
             Step {
                 taken: count,
                 end: end_of_piece(go),

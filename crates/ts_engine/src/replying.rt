@@ -1,11 +1,11 @@
 // The result of a session, and what it writes.
 ghost use Rattle.std.specs.Prelude.{◌≡◌, ◌<◌, ◌^◌, Some};
-ghost use Rattle.ts_engine.specs.Going.{end_of};
+ghost use Rattle.ts_engine.specs.SessionEnd.{end_of};
 
 use crate::session::Session;
 use std::sync::ledger::Ledger;
 use ts_db::Db;
-use ts_execution::Turns;
+use ts_execution::Handler;
 use ts_io::{Clock, Sink, write_all_counted};
 use ts_resp::{Protocol, Reply, Word, put};
 use ts_sample::Steps;
@@ -38,15 +38,15 @@ impl Go {
 }
 
 impl Session {
-    ghost use Rattle.ts_db.specs.Held.{Carries};
-    ghost use Rattle.ts_engine.specs.Session.{Replied, Refused, HasCauseBy, WroteOrFault};
-    ghost use Rattle.ts_engine.specs.Standing.{spot_in, reader_of, executed_by};
+    ghost use Rattle.ts_db.specs.DbState.{Simulates};
+    ghost use Rattle.ts_engine.specs.Session.{Replied, Refused, HasCauseWith, WroteOrFault};
+    ghost use Rattle.ts_engine.specs.SessionView.{progress_in, reader_of, executed_by};
 
     // Handles a request and writes its reply.
-    pub(crate) fn answer<T: Turns, C: Clock, K: Sink, L: Ledger>(
+    pub(crate) fn answer<T: Handler, C: Clock, K: Sink, L: Ledger>(
         &mut self,
         words: Vec<Word>,
-        turns: &mut T,
+        handler: &mut T,
         db: &mut Db,
         clock: &mut C,
         out: &mut K,
@@ -54,17 +54,18 @@ impl Session {
     ) -> Option<Go>
         requires counted { executed_by self.old < (reader_of self.old).begin }
         requires bounded { (reader_of self.old).begin < 2 ^ 64 }
-        ensures replied { Carries db.old db.new (λ from to. Replied result words.items
-            (spot_in T.kind self.old (T.world turns.old from (C.readings clock.old)))
-            (spot_in T.kind self.new (T.world turns.new to (C.readings clock.new))) (K.has out.old) (K.has out.new)) }
+        ensures replied { Simulates db.old db.new (λ from to. Replied result words.items
+            (progress_in T.kind self.old (T.world handler.old from (C.readings clock.old)))
+            (progress_in T.kind self.new (T.world handler.new to (C.readings clock.new))) (K.has out.old)
+            (K.has out.new)) }
         ensures reader { reader_of self.new ≡ reader_of self.old }
         ensures ends { result ≡ Some Go.More → ⊥ }
-        ensures cause { HasCauseBy T.kind result (K.faults out.old) (K.faults out.new) (T.own turns.old)
-            (T.own turns.new) }
-        ensures lent { T.lent turns.new ≡ T.lent turns.old }
+        ensures cause { HasCauseWith T.kind result (K.faults out.old) (K.faults out.new) (T.own handler.old)
+            (T.own handler.new) }
+        ensures lent { T.lent handler.new ≡ T.lent handler.old }
     {
         let mut words = words;
-        let answered = turns.answer(
+        let answered = handler.answer(
             db,
             &mut self.hints,
             &mut words,
@@ -83,7 +84,7 @@ impl Session {
     }
 
     // Writes the protocol error that ends a broken stream.
-    pub(crate) fn refuse<K: Sink>(&mut self, fault: Protocol, out: &mut K) -> Go
+    pub(crate) fn reply_fault<K: Sink>(&mut self, fault: Protocol, out: &mut K) -> Go
         ensures refused { Refused result fault (K.has out.old) (K.has out.new) }
         ensures ends { result ≡ Go.More → ⊥ }
         ensures reader { reader_of self.new ≡ reader_of self.old }

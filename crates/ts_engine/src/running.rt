@@ -5,15 +5,15 @@ ghost use Rattle.ts_journal.specs.Limits.{IsBounded};
 ghost use Rattle.ts_engine.specs.Asked.{asked, IsServe, IsGen, Connections, AllServed};
 ghost use Rattle.ts_engine.specs.Captured.{IsMux, Captured, HasCaptureLine, status_captured};
 ghost use Rattle.ts_engine.specs.Generated.{Workload};
-ghost use Rattle.ts_engine.specs.Headline.{Seen, ending, asks_to_quit};
-ghost use Rattle.ts_engine.specs.Journaled.{IsKeep, Journaled, HasJournalLine, status_kept};
-ghost use Rattle.ts_engine.specs.Taken.{Taken, HasStatusLine};
+ghost use Rattle.ts_engine.specs.Headline.{RunView, ending, asks_to_quit};
+ghost use Rattle.ts_engine.specs.Journaled.{IsKeep, Journaled, HasJournalLine, status_journaled};
+ghost use Rattle.ts_engine.specs.InputTaken.{InputTaken, HasStatusLine};
 ghost use Rattle.ts_engine.specs.Top.{AreUsable, IsPipe, Reports, Headline, status_by, status_cut, NoneRose};
 
 use crate::address::serve_address;
 use crate::capture::answer_capture;
 use crate::generated::answer_workload;
-use crate::keep::answer_kept;
+use crate::keep::answer_journaled;
 use crate::piped::pipe;
 use crate::status::report;
 use std::alloc::Global;
@@ -53,7 +53,7 @@ pub fn top<S: Source, K: Sink, E: Sink, C: Clock, N: Listener, J: Log>(
     requires limits { AreUsable limits }
     requires bounded { IsBounded limits.wire }
     requires budget { 1 ≤ budget }
-    requires net { N.is_out net.old ≡ false }
+    requires net { N.has_open_link net.old ≡ false }
 
     // pipe: the output is the replies of a database of plain sample lists to the requests in the input.
     ensures headline { IsPipe words.now → (bytes : List ℕ) → S.left input.old ≡ Some bytes → Headline
@@ -62,17 +62,21 @@ pub fn top<S: Source, K: Sink, E: Sink, C: Clock, N: Listener, J: Log>(
 
     // If no device fails and the input is shorter than the budget, the status is that of the grammar, or out of memory.
     ensures complete { IsPipe words.now → (bytes : List ℕ) → S.left input.old ≡ Some bytes → length bytes < budget
-        → NoneRose (S.faults input.old) (S.faults input.new) (K.faults out.old) (K.faults out.new) (E.faults err.old) (E.faults err.new)
+        → NoneRose (S.faults input.old) (S.faults input.new) (K.faults out.old) (K.faults out.new) (E.faults err.old)
+        (E.faults err.new)
         → (result ≡ Status.Memory) ⊎ (result ≡ status_by (asks_to_quit limits.wire bytes) (ending limits.wire bytes)) }
 
     // If none fails and the input is not shorter than the budget, the status is that of the grammar for the first
     // `budget` bytes: a used-up budget, unless they contain a QUIT or a protocol error; or out of memory.
     ensures spent { IsPipe words.now → (bytes : List ℕ) → S.left input.old ≡ Some bytes → budget ≤ length bytes
-        → NoneRose (S.faults input.old) (S.faults input.new) (K.faults out.old) (K.faults out.new) (E.faults err.old) (E.faults err.new)
-        → (result ≡ Status.Memory) ⊎ (result ≡ status_cut (asks_to_quit limits.wire (take budget bytes)) (ending limits.wire (take budget bytes))) }
+        → NoneRose (S.faults input.old) (S.faults input.new) (K.faults out.old) (K.faults out.new) (E.faults err.old)
+        (E.faults err.new)
+        → (result ≡ Status.Memory)
+        ⊎ (result ≡ status_cut (asks_to_quit limits.wire (take budget bytes))
+        (ending limits.wire (take budget bytes))) }
 
     // Which prefix of the input is read, and what is left of it.
-    ensures taken { IsPipe words.now → (bytes : List ℕ) → S.left input.old ≡ Some bytes → Taken
+    ensures taken { IsPipe words.now → (bytes : List ℕ) → S.left input.old ≡ Some bytes → InputTaken
         (record { limits = limits; readings = C.readings clock.old; readings_left = C.readings clock.new; had = K.has out.old; has = K.has out.new })
         budget bytes (S.left input.new) (E.has err.old) (E.has err.new) result }
 
@@ -84,7 +88,8 @@ pub fn top<S: Source, K: Sink, E: Sink, C: Clock, N: Listener, J: Log>(
     ensures served { (links : ℕ) → asked words.now ≡ Some (Mode.Serve links) → Connections
         (record { left = N.In.left; reads = N.In.faults; has = N.Out.has; writes = N.Out.faults })
         (record { limits = limits; readings = C.readings clock.old; readings_left = C.readings clock.new; had = K.has out.old; has = K.has out.new })
-        budget links (N.coming net.old) (N.coming net.new) (N.closed net.old) (N.closed net.new) (E.has err.old) (E.has err.new) result }
+        budget links (N.coming net.old) (N.coming net.new) (N.closed net.old) (N.closed net.new) (E.has err.old)
+        (E.has err.new) result }
 
     // gen: the summary is that of a run of the workload's requests.
     ensures generated { (seed n : ℕ) → asked words.now ≡ Some (Mode.Gen seed n)
@@ -92,13 +97,15 @@ pub fn top<S: Source, K: Sink, E: Sink, C: Clock, N: Listener, J: Log>(
 
     // If neither the listener nor the output fails, all connections are served and their lines are written.
     ensures serve_complete { (links : ℕ) → asked words.now ≡ Some (Mode.Serve links)
-        → (Rose (N.faults net.old) (N.faults net.new) → ⊥) → (Rose (K.faults out.old) (K.faults out.new) → ⊥) → AllServed
+        → (Rose (N.faults net.old) (N.faults net.new) → ⊥) → (Rose (K.faults out.old) (K.faults out.new) → ⊥)
+        → AllServed
         (record { left = N.In.left; reads = N.In.faults; has = N.Out.has; writes = N.Out.faults })
         (record { limits = limits; readings = C.readings clock.old; readings_left = C.readings clock.new; had = K.has out.old; has = K.has out.new })
         budget links (N.coming net.old) (N.coming net.new) (N.closed net.old) (N.closed net.new) result }
 
     // If neither the output nor `err` fails, the status is the good one, or out of memory.
-    ensures gen_complete { IsGen words.now → (Rose (K.faults out.old) (K.faults out.new) → ⊥) → (Rose (E.faults err.old) (E.faults err.new) → ⊥)
+    ensures gen_complete { IsGen words.now → (Rose (K.faults out.old) (K.faults out.new) → ⊥)
+        → (Rose (E.faults err.old) (E.faults err.new) → ⊥)
         → (result ≡ Status.Memory) ⊎ (result ≡ Status.Ended) }
 
     // mux: the output has one frame for each request of the interleaved connections, in order, with the reply of one
@@ -109,7 +116,8 @@ pub fn top<S: Source, K: Sink, E: Sink, C: Clock, N: Listener, J: Log>(
 
     // If no device fails, the status is that of the bytes that may be read, or out of memory.
     ensures capture_complete { IsMux words.now → (bytes : List ℕ) → S.left input.old ≡ Some bytes
-        → NoneRose (S.faults input.old) (S.faults input.new) (K.faults out.old) (K.faults out.new) (E.faults err.old) (E.faults err.new)
+        → NoneRose (S.faults input.old) (S.faults input.new) (K.faults out.old) (K.faults out.new) (E.faults err.old)
+        (E.faults err.new)
         → (result ≡ Status.Memory) ⊎ (result ≡ status_captured budget bytes) }
 
     // The status line of a status. Holds even if the input's bytes are unknown.
@@ -120,7 +128,8 @@ pub fn top<S: Source, K: Sink, E: Sink, C: Clock, N: Listener, J: Log>(
 
     // keep: the input is answered on the database that the journal loads to. Each reply that was written has its whole
     // record in the journal, and each prefix of the journal loads to the database after its complete changes.
-    ensures journaled { IsKeep words.now → (journal bytes : List ℕ) → J.content log.old ≡ Some journal → S.left input.old ≡ Some bytes → Journaled
+    ensures journaled { IsKeep words.now → (journal bytes : List ℕ) → J.content log.old ≡ Some journal
+        → S.left input.old ≡ Some bytes → Journaled
         (record {
           seen = record { limits = limits; readings = C.readings clock.old; readings_left = C.readings clock.new; had = K.has out.old; has = K.has out.new };
           journal = journal;
@@ -130,10 +139,12 @@ pub fn top<S: Source, K: Sink, E: Sink, C: Clock, N: Listener, J: Log>(
         budget bytes (S.left input.new) (E.has err.old) (E.has err.new) result }
 
     // If no device fails, the status is that of the journal and the input, or out of memory.
-    ensures journal_complete { IsKeep words.now → (journal bytes : List ℕ) → J.content log.old ≡ Some journal → S.left input.old ≡ Some bytes
-        → NoneRose (S.faults input.old) (S.faults input.new) (K.faults out.old) (K.faults out.new) (E.faults err.old) (E.faults err.new)
+    ensures journal_complete { IsKeep words.now → (journal bytes : List ℕ) → J.content log.old ≡ Some journal
+        → S.left input.old ≡ Some bytes
+        → NoneRose (S.faults input.old) (S.faults input.new) (K.faults out.old) (K.faults out.new) (E.faults err.old)
+        (E.faults err.new)
         → (Rose (J.faults log.old) (J.faults log.new) → ⊥)
-        → (result ≡ Status.Memory) ⊎ (result ≡ status_kept limits budget journal bytes) }
+        → (result ≡ Status.Memory) ⊎ (result ≡ status_journaled limits budget journal bytes) }
 
     // The status line of a status. Holds even if the bytes of the input and of the journal are unknown.
     ensures journal_line { IsKeep words.now → HasJournalLine (E.has err.old) (E.has err.new) result }
@@ -155,18 +166,23 @@ pub fn top<S: Source, K: Sink, E: Sink, C: Clock, N: Listener, J: Log>(
 
     // With any other status, no fault counter changed. A write fault may hide another fault: it then cut the line that
     // would have reported it.
-    ensures no_read_fault { result ≢ Status.ReadFault → result ≢ Status.WriteFault → S.faults input.new ≡ S.faults input.old }
-    ensures no_write_fault { result ≢ Status.WriteFault → (K.faults out.new ≡ K.faults out.old) × (E.faults err.new ≡ E.faults err.old) }
-    ensures no_accept_fault { result ≢ Status.AcceptFault → result ≢ Status.WriteFault → N.faults net.new ≡ N.faults net.old }
-    ensures no_journal_fault { result ≢ Status.JournalFault → result ≢ Status.WriteFault → J.faults log.new ≡ J.faults log.old }
+    ensures no_read_fault { result ≢ Status.ReadFault → result ≢ Status.WriteFault
+        → S.faults input.new ≡ S.faults input.old }
+    ensures no_write_fault { result ≢ Status.WriteFault
+        → (K.faults out.new ≡ K.faults out.old) × (E.faults err.new ≡ E.faults err.old) }
+    ensures no_accept_fault { result ≢ Status.AcceptFault → result ≢ Status.WriteFault
+        → N.faults net.new ≡ N.faults net.old }
+    ensures no_journal_fault { result ≢ Status.JournalFault → result ≢ Status.WriteFault
+        → J.faults log.new ≡ J.faults log.old }
 
     // Only `pipe`, `keep` and `mux` use `input`; only `keep` uses `log`; only `serve` uses `net`, and closes every
     // connection that it accepted. `gen` reads no clock.
-    ensures input { (asked words.now ≡ Some Mode.Pipe → ⊥) → (IsKeep words.now → ⊥) → (asked words.now ≡ Some Mode.Mux → ⊥) → input.new ≡ input.old }
+    ensures input { (asked words.now ≡ Some Mode.Pipe → ⊥) → (IsKeep words.now → ⊥)
+        → (asked words.now ≡ Some Mode.Mux → ⊥) → input.new ≡ input.old }
     ensures log { (IsKeep words.now → ⊥) → log.new ≡ log.old }
     ensures net { (IsServe words.now → ⊥) → net.new ≡ net.old }
     ensures clock { IsGen words.now → clock.new ≡ clock.old }
-    ensures handed_back { N.is_out net.new ≡ false }
+    ensures all_closed { N.has_open_link net.new ≡ false }
 {
     match Mode::read(words) {
         Some(Mode::Pipe) => {
@@ -178,7 +194,7 @@ pub fn top<S: Source, K: Sink, E: Sink, C: Clock, N: Listener, J: Log>(
             alloc, &words[1], net, out, err, clock, links, limits, budget,
         ),
         Some(Mode::Gen(seed, n)) => answer_workload(alloc, seed, n, out, err, limits),
-        Some(Mode::Keep) => answer_kept(
+        Some(Mode::Keep) => answer_journaled(
             alloc, &words[1], input, out, err, clock, log, limits, budget,
         ),
         Some(Mode::Mux) => answer_capture(alloc, input, out, err, clock, limits, budget),

@@ -1,8 +1,8 @@
 // Serves connections one after another on one database.
 ghost use Rattle.std.specs.Prelude.{◌≡◌, ◌≢◌, ◌≤◌, false, OnOk, OnErr};
 ghost use Rattle.ts_io.specs.Causes.{HasCause, Rose};
-ghost use Rattle.ts_io.specs.Sinks.{Grows, GrowsByFront};
-ghost use Rattle.ts_db.specs.Held.{Carries};
+ghost use Rattle.ts_io.specs.Sinks.{Grows, GrowsByPrefix};
+ghost use Rattle.ts_db.specs.DbState.{Simulates};
 ghost use Rattle.ts_execution.specs.Limits.{CanRead};
 ghost use Rattle.ts_engine.specs.Serving.{Serves, line_at};
 ghost use Rattle.ts_engine.specs.Serving as lines;
@@ -43,14 +43,14 @@ pub fn serve<N: Listener, K: Sink, C: Clock>(
 ) -> Served
     requires limits { CanRead limits }
     requires budget { 1 ≤ budget }
-    requires net { N.is_out net.old ≡ false }
-    ensures serves { Carries db.old db.new (λ from to. Serves
+    requires net { N.has_open_link net.old ≡ false }
+    ensures serves { Simulates db.old db.new (λ from to. Serves
         (record { left = N.In.left; reads = N.In.faults; has = N.Out.has; writes = N.Out.faults }) limits budget
         result 1 links
         (record { held = from; readings = C.readings clock.old })
         (record { held = to; readings = C.readings clock.new })
         (N.coming net.old) (N.coming net.new) (N.closed net.old) (N.closed net.new) (K.has out.old) (K.has out.new)) }
-    ensures net { N.is_out net.new ≡ false }
+    ensures net { N.has_open_link net.new ≡ false }
     ensures accepts_later { N.faults net.old ≤ N.faults net.new }
     ensures writes_later { K.faults out.old ≤ K.faults out.new }
     ensures accept_fault { result ≡ Served.AcceptFault → Rose (N.faults net.old) (N.faults net.new) }
@@ -80,14 +80,14 @@ fn serve_link<N: Listener, K: Sink, C: Clock>(
 ) -> Served
     requires limits { CanRead limits }
     requires budget { 1 ≤ budget }
-    requires net { N.is_out net.old ≡ false }
-    ensures serves { Carries db.old db.new (λ from to. Serves
+    requires net { N.has_open_link net.old ≡ false }
+    ensures serves { Simulates db.old db.new (λ from to. Serves
         (record { left = N.In.left; reads = N.In.faults; has = N.Out.has; writes = N.Out.faults }) limits budget
         result number 1
         (record { held = from; readings = C.readings clock.old })
         (record { held = to; readings = C.readings clock.new })
         (N.coming net.old) (N.coming net.new) (N.closed net.old) (N.closed net.new) (K.has out.old) (K.has out.new)) }
-    ensures net { N.is_out net.new ≡ false }
+    ensures net { N.has_open_link net.new ≡ false }
     ensures accepts_later { N.faults net.old ≤ N.faults net.new }
     ensures writes_later { K.faults out.old ≤ K.faults out.new }
     ensures accept_fault { result ≡ Served.AcceptFault → Rose (N.faults net.old) (N.faults net.new) }
@@ -117,7 +117,7 @@ fn serve_link<N: Listener, K: Sink, C: Clock>(
 // Writes the line of a connection.
 fn write_link<K: Sink>(out: &mut K, number: u32, outcome: Outcome) -> Result<(), Failed>
     ensures whole { OnOk result (Grows (K.has out.old) (K.has out.new) (line_at number outcome)) }
-    ensures front { OnErr result (GrowsByFront (K.has out.old) (K.has out.new) (line_at number outcome)) }
+    ensures front { OnErr result (GrowsByPrefix (K.has out.old) (K.has out.new) (line_at number outcome)) }
     ensures cause { HasCause (K.faults out.old) (K.faults out.new) result }
 {
     let mut room = [0; ROOM];

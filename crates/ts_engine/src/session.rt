@@ -1,14 +1,14 @@
 // A session: answers the requests of one stream.
 ghost use Rattle.std.specs.Prelude.{◌≡◌, ◌+◌, ◌<◌, ◌≤◌, ◌^◌, [], length, None, Some, IfOk, IfNone, IfSome};
 ghost use Rattle.ts_execution.specs.Limits.{CanRead};
-ghost use Rattle.ts_engine.specs.Going.{end_of};
+ghost use Rattle.ts_engine.specs.SessionEnd.{end_of};
 
 use crate::replying::Go;
 use std::alloc::{AllocError, Global};
 use std::marker::Brand;
 use std::sync::ledger::{Blank, Ledger};
 use ts_db::{Db, Hints};
-use ts_execution::{Plain, Turns};
+use ts_execution::{Handler, Plain};
 use ts_io::{Clock, Sink};
 use ts_resp::{Next, Out, Reader, WireLimits};
 use ts_sample::Steps;
@@ -27,9 +27,10 @@ pub struct Session {
 
 impl Session {
     ghost use Rattle.ts_resp.specs.Reading.{fed, unfinished};
-    ghost use Rattle.ts_db.specs.Held.{Carries};
-    ghost use Rattle.ts_engine.specs.Session.{GoesOn, WentAs, HasCauseBy, WroteOrFault};
-    ghost use Rattle.ts_engine.specs.Standing.{spot, spot_in, reader_of, executed_by, ended_of, Begins, HasAnswered};
+    ghost use Rattle.ts_db.specs.DbState.{Simulates};
+    ghost use Rattle.ts_engine.specs.Session.{GoesOn, HandledAs, HasCauseWith, WroteOrFault};
+    ghost use Rattle.ts_engine.specs.SessionView.{progress_over, progress_in, reader_of, executed_by, ended_of, Begins};
+    ghost use Rattle.ts_engine.specs.SessionView.{HasAnswered};
 
     /// A new session.
     pub fn new(alloc: Global, limits: WireLimits) -> Result<Session, AllocError>
@@ -56,45 +57,50 @@ impl Session {
         out: &mut K,
     ) -> Go
         requires { fed (reader_of self.old) + length bytes.now < 2 ^ 64 }
-        ensures goes { IfNone (ended_of self.old) (Carries db.old db.new (λ from to. WentAs result
-            (spot self.old from (C.readings clock.old)) (spot self.new to (C.readings clock.new))
+        ensures goes { IfNone (ended_of self.old) (Simulates db.old db.new (λ from to. HandledAs result
+            (progress_over self.old from (C.readings clock.old)) (progress_over self.new to (C.readings clock.new))
             (K.has out.old) (K.has out.new) bytes.now)) }
         ensures current { IfNone (ended_of self.old) (result ≡ Go.More → HasAnswered self.new) }
         ensures again { IfSome (ended_of self.old) (λ go. (result ≡ go)
             × (self.new ≡ self.old) × (db.new ≡ db.old) × (clock.new ≡ clock.old) × (out.new ≡ out.old)) }
         ensures ended { IfNone (ended_of self.old) (ended_of self.new ≡ end_of result) }
-        ensures fed { ended_of self.new ≡ None → fed (reader_of self.new) ≡ fed (reader_of self.old) + length bytes.now }
+        ensures fed { ended_of self.new ≡ None
+            → fed (reader_of self.new) ≡ fed (reader_of self.old) + length bytes.now }
         ensures cause { IfNone (ended_of self.old) (WroteOrFault (K.faults out.old) (K.faults out.new) (Some result)) }
     {
-        self.piece_by(&mut Plain, db, bytes, clock, out)
+        self.piece_with(&mut Plain, db, bytes, clock, out)
     }
 
     /// The same with any request handler.
-    pub(crate) fn piece_by<T: Turns, C: Clock, K: Sink>(
+    pub(crate) fn piece_with<T: Handler, C: Clock, K: Sink>(
         &mut self,
-        turns: &mut T,
+        handler: &mut T,
         db: &mut Db,
         bytes: &[u8],
         clock: &mut C,
         out: &mut K,
     ) -> Go
         requires { fed (reader_of self.old) + length bytes.now < 2 ^ 64 }
-        ensures goes { IfNone (ended_of self.old) (Carries db.old db.new (λ from to. WentAs result
-            (spot_in T.kind self.old (T.world turns.old from (C.readings clock.old)))
-            (spot_in T.kind self.new (T.world turns.new to (C.readings clock.new))) (K.has out.old) (K.has out.new) bytes.now)) }
+        ensures goes { IfNone (ended_of self.old) (Simulates db.old db.new (λ from to. HandledAs result
+            (progress_in T.kind self.old (T.world handler.old from (C.readings clock.old)))
+            (progress_in T.kind self.new (T.world handler.new to (C.readings clock.new))) (K.has out.old)
+            (K.has out.new) bytes.now)) }
         ensures current { IfNone (ended_of self.old) (result ≡ Go.More → HasAnswered self.new) }
-        ensures again { IfSome (ended_of self.old) (λ go. (result ≡ go) × (self.new ≡ self.old) × (turns.new ≡ turns.old)
+        ensures again { IfSome (ended_of self.old) (λ go. (result ≡ go) × (self.new ≡ self.old)
+            × (handler.new ≡ handler.old)
             × (db.new ≡ db.old) × (clock.new ≡ clock.old) × (out.new ≡ out.old)) }
         ensures ended { IfNone (ended_of self.old) (ended_of self.new ≡ end_of result) }
-        ensures fed { ended_of self.new ≡ None → fed (reader_of self.new) ≡ fed (reader_of self.old) + length bytes.now }
+        ensures fed { ended_of self.new ≡ None
+            → fed (reader_of self.new) ≡ fed (reader_of self.old) + length bytes.now }
         ensures cause { IfNone (ended_of self.old)
-            (HasCauseBy T.kind (Some result) (K.faults out.old) (K.faults out.new) (T.own turns.old) (T.own turns.new)) }
-        ensures lent { T.lent turns.new ≡ T.lent turns.old }
+            (HasCauseWith T.kind (Some result) (K.faults out.old) (K.faults out.new) (T.own handler.old)
+            (T.own handler.new)) }
+        ensures lent { T.lent handler.new ≡ T.lent handler.old }
     {
         if let Some(go) = self.ended {
             return go;
         }
-        let go = self.take_piece::<T, C, K, Brand>(turns, db, bytes, clock, out, Blank::new(1));
+        let go = self.answer_piece::<T, C, K, Brand>(handler, db, bytes, clock, out, Blank::new(1));
         self.ended = go.end();
         go
     }
@@ -113,9 +119,9 @@ impl Session {
     }
 
     // Feeds the piece to the reader, and answers the requests that it completes.
-    fn take_piece<T: Turns, C: Clock, K: Sink, L: Ledger>(
+    fn answer_piece<T: Handler, C: Clock, K: Sink, L: Ledger>(
         &mut self,
-        turns: &mut T,
+        handler: &mut T,
         db: &mut Db,
         bytes: &[u8],
         clock: &mut C,
@@ -126,72 +132,76 @@ impl Session {
         requires name { blank.name ≡ L.name }
         requires parts { blank.parts ≡ L.parts }
         requires some { 0 < blank.parts }
-        ensures goes { Carries db.old db.new (λ from to. WentAs result
-            (spot_in T.kind self.old (T.world turns.old from (C.readings clock.old)))
-            (spot_in T.kind self.new (T.world turns.new to (C.readings clock.new)))
+        ensures goes { Simulates db.old db.new (λ from to. HandledAs result
+            (progress_in T.kind self.old (T.world handler.old from (C.readings clock.old)))
+            (progress_in T.kind self.new (T.world handler.new to (C.readings clock.new)))
             (K.has out.old) (K.has out.new) bytes.now) }
         ensures current { result ≡ Go.More → HasAnswered self.new }
         ensures fed { result ≡ Go.More → fed (reader_of self.new) ≡ fed (reader_of self.old) + length bytes.now }
-        ensures cause { HasCauseBy T.kind (Some result) (K.faults out.old) (K.faults out.new) (T.own turns.old) (T.own turns.new) }
-        ensures lent { T.lent turns.new ≡ T.lent turns.old }
+        ensures cause { HasCauseWith T.kind (Some result) (K.faults out.old) (K.faults out.new) (T.own handler.old)
+            (T.own handler.new) }
+        ensures lent { T.lent handler.new ≡ T.lent handler.old }
     {
         let mut steps = Steps::<L>::new(blank);
         match self.reader.feed(bytes) {
-            Ok(()) => self.answer_all(turns, db, clock, out, &mut steps),
+            Ok(()) => self.answer_all(handler, db, clock, out, &mut steps),
             Err(_) => Go::Memory,
         }
     }
 
     // Answers every complete request.
-    fn answer_all<T: Turns, C: Clock, K: Sink, L: Ledger>(
+    fn answer_all<T: Handler, C: Clock, K: Sink, L: Ledger>(
         &mut self,
-        turns: &mut T,
+        handler: &mut T,
         db: &mut Db,
         clock: &mut C,
         out: &mut K,
         steps: &mut Steps<L>,
     ) -> Go
-        ensures goes { Carries db.old db.new (λ from to. WentAs result
-            (spot_in T.kind self.old (T.world turns.old from (C.readings clock.old)))
-            (spot_in T.kind self.new (T.world turns.new to (C.readings clock.new)))
+        ensures goes { Simulates db.old db.new (λ from to. HandledAs result
+            (progress_in T.kind self.old (T.world handler.old from (C.readings clock.old)))
+            (progress_in T.kind self.new (T.world handler.new to (C.readings clock.new)))
             (K.has out.old) (K.has out.new) []) }
         ensures current { result ≡ Go.More → HasAnswered self.new }
         ensures fed { fed (reader_of self.new) ≡ fed (reader_of self.old) }
-        ensures cause { HasCauseBy T.kind (Some result) (K.faults out.old) (K.faults out.new) (T.own turns.old) (T.own turns.new) }
-        ensures lent { T.lent turns.new ≡ T.lent turns.old }
+        ensures cause { HasCauseWith T.kind (Some result) (K.faults out.old) (K.faults out.new) (T.own handler.old)
+            (T.own handler.new) }
+        ensures lent { T.lent handler.new ≡ T.lent handler.old }
     {
         loop {
-            if let Some(go) = self.answer_next(turns, db, clock, out, steps) {
+            if let Some(go) = self.answer_next(handler, db, clock, out, steps) {
                 return go;
             }
         }
     }
 
     // Frees the memory of a huge reply, and answers the next request. Returns `None` if more may follow.
-    fn answer_next<T: Turns, C: Clock, K: Sink, L: Ledger>(
+    fn answer_next<T: Handler, C: Clock, K: Sink, L: Ledger>(
         &mut self,
-        turns: &mut T,
+        handler: &mut T,
         db: &mut Db,
         clock: &mut C,
         out: &mut K,
         steps: &mut Steps<L>,
     ) -> Option<Go>
-        ensures goes { Carries db.old db.new (λ from to. GoesOn result
-            (spot_in T.kind self.old (T.world turns.old from (C.readings clock.old)))
-            (spot_in T.kind self.new (T.world turns.new to (C.readings clock.new))) (K.has out.old) (K.has out.new)) }
+        ensures goes { Simulates db.old db.new (λ from to. GoesOn result
+            (progress_in T.kind self.old (T.world handler.old from (C.readings clock.old)))
+            (progress_in T.kind self.new (T.world handler.new to (C.readings clock.new))) (K.has out.old)
+            (K.has out.new)) }
         ensures onward { result ≡ None → (reader_of self.old).begin < (reader_of self.new).begin }
         ensures current { result ≡ Some Go.More → HasAnswered self.new }
         ensures fed { fed (reader_of self.new) ≡ fed (reader_of self.old) }
         ensures within { (reader_of self.new).begin ≤ fed (reader_of self.new) }
-        ensures cause { HasCauseBy T.kind result (K.faults out.old) (K.faults out.new) (T.own turns.old) (T.own turns.new) }
-        ensures lent { T.lent turns.new ≡ T.lent turns.old }
+        ensures cause { HasCauseWith T.kind result (K.faults out.old) (K.faults out.new) (T.own handler.old)
+            (T.own handler.new) }
+        ensures lent { T.lent handler.new ≡ T.lent handler.old }
     {
         self.room.give_back();
         match self.reader.next() {
-            Next::Request(words) => self.answer(words, turns, db, clock, out, steps),
+            Next::Request(words) => self.answer(words, handler, db, clock, out, steps),
             Next::NotYet => Some(Go::More),
             Next::Memory => Some(Go::Memory),
-            Next::Broken(fault) => Some(self.refuse(fault, out)),
+            Next::Broken(fault) => Some(self.reply_fault(fault, out)),
         }
     }
 }

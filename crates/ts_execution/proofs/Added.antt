@@ -12,8 +12,8 @@ use Rattle.ts_spec.specs.State.{Record}
 use Rattle.ts_spec.specs.Step.{Outcome, add_at, add, put_at, put_own}
 use Rattle.ts_sample.specs.declared.sample.Id.{Id}
 use Rattle.ts_db.specs.Faults.{refusal_of}
-use Rattle.ts_db.specs.PutBy.{put_by_at, put_by}
-use Rattle.ts_db.specs.Held.{Held, Stock, AnswersNumber, IsDone, IsAnswer}
+use Rattle.ts_db.specs.PutBy.{put_with_policy_at, put_with_policy}
+use Rattle.ts_db.specs.DbState.{DbState, DbView, AnswersCount, IsDone, IsAnswer}
 use Rattle.ts_db.specs.declared.fault.DbFault.{DbFault}
 use Rattle.ts_db.specs.declared.fault.DbFault.TheVariants.{KeyExists, NoKey, KeysFull, LabelsFull, TooOld, Duplicate, OutOfRange, BeforeLast, SamplesFull, DeleteBeyondRetention, SameKey, SourceIsDest, DestIsSource, DestHasSource, RulesSpent, RulesFull, NoRule, Memory}
 
@@ -41,19 +41,19 @@ only_missing ids (Memory e) is = absurd (cc is)
 
 module _ (key : Key) (t : ℕ) (v : ℤ) (on : Option Policy) (spec : Spec) where
   -- a write to an existing key, and TS.ADD
-  abbrev pub puts : Held → Outcome
-  puts h = put_by h.limits h.state key t v on
+  abbrev pub puts : DbState → Outcome
+  puts h = put_with_policy h.limits h.state key t v on
 
-  abbrev pub adds : Held → Outcome
+  abbrev pub adds : DbState → Outcome
   adds h = add h.limits h.state key t v on spec
 
-  done_as : (time : ℕ) (from : Held) (new : Stock) (o : Option Record)
-      → IsDone (Count time) from.limits (put_by_at from.limits from.state key t v on o) new → IsDone (Count time) from.limits (add_at from.limits from.state key t v on spec o) new
+  done_as : (time : ℕ) (from : DbState) (new : DbView) (o : Option Record)
+      → IsDone (Count time) from.limits (put_with_policy_at from.limits from.state key t v on o) new → IsDone (Count time) from.limits (add_at from.limits from.state key t v on spec o) new
   done_as time from new None done = absurd (cc done.says)
   done_as time from new (Some d) done = done
 
-  refused_as : (r : Option Refusal) (from : Held) (o : Option Record) → r ≢ Some refusal.NoKey
-      → IsAnswer r from.state (put_by_at from.limits from.state key t v on o) → IsAnswer r from.state (add_at from.limits from.state key t v on spec o)
+  refused_as : (r : Option Refusal) (from : DbState) (o : Option Record) → r ≢ Some refusal.NoKey
+      → IsAnswer r from.state (put_with_policy_at from.limits from.state key t v on o) → IsAnswer r from.state (add_at from.limits from.state key t v on spec o)
   refused_as None from None other is = absurd is
   refused_as None from (Some d) other is = is
   refused_as (Some r) from None other is =
@@ -63,10 +63,10 @@ module _ (key : Key) (t : ℕ) (v : ℤ) (on : Option Policy) (spec : Spec) wher
   refused_as (Some r) from (Some d) other is = is
 
   -- a time was returned, or an error other than that the key does not exist
-  pub added : (old new : Stock) (time : ℕ) → AnswersNumber old puts (Ok time) new → AnswersNumber old adds (Ok time) new
+  pub added : (old new : DbView) (time : ℕ) → AnswersCount old puts (Ok time) new → AnswersCount old adds (Ok time) new
   added old new time answers = λ from stands. done_as time from new (get key from.state) (answers from stands)
 
-  pub not_added : (old new : Stock) (fault : DbFault) → fault ≢ NoKey → AnswersNumber old puts (Err fault) new → AnswersNumber old adds (Err fault) new
+  pub not_added : (old new : DbView) (fault : DbFault) → fault ≢ NoKey → AnswersCount old puts (Err fault) new → AnswersCount old adds (Err fault) new
   not_added old new fault there answers = (
     (λ from stands. refused_as (refusal_of old.ids fault) from (get key from.state) (λ missing. there (only_missing old.ids fault missing)) (answers.0 from stands)),
     answers.1,
@@ -74,11 +74,11 @@ module _ (key : Key) (t : ℕ) (v : ℤ) (on : Option Policy) (spec : Spec) wher
 
 -- ---- without a policy of its own
 
-own : (h : Held) (key : Key) (t : ℕ) (v : ℤ) (o : Option Record) → put_by_at h.limits h.state key t v None o ≡ put_at h.limits h.state key t v o
+own : (h : DbState) (key : Key) (t : ℕ) (v : ℤ) (o : Option Record) → put_with_policy_at h.limits h.state key t v None o ≡ put_at h.limits h.state key t v o
 own h key t v None = refl
 own h key t v (Some d) = refl
 
 -- the write uses the policy of the series
-pub by-own : (old : Stock) (key : Key) (t : ℕ) (v : ℤ) (r : Result ℕ DbFault) (new : Stock) → AnswersNumber old (λ h. put_by h.limits h.state key t v None) r new
-    → AnswersNumber old (λ h. put_own h.limits h.state key t v) r new
-by-own old key t v r new = subst (λ (step : Held → Outcome). AnswersNumber old step r new) (λ i h. own h key t v (get key h.state) i)
+pub by-own : (old : DbView) (key : Key) (t : ℕ) (v : ℤ) (r : Result ℕ DbFault) (new : DbView) → AnswersCount old (λ h. put_with_policy h.limits h.state key t v None) r new
+    → AnswersCount old (λ h. put_own h.limits h.state key t v) r new
+by-own old key t v r new = subst (λ (step : DbState → Outcome). AnswersCount old step r new) (λ i h. own h key t v (get key h.state) i)

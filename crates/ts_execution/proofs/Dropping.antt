@@ -8,12 +8,12 @@ use Rattle.ts_spec.specs.Rules.{dropped}
 use Rattle.ts_spec.specs.Step.{drop_keys}
 use Rattle.ts_spec.specs.Text.{Reply}
 use Rattle.ts_spec.specs.State.{State}
-use Rattle.ts_db.specs.Held.{Held, Stock, Stands, Carries, Drops}
-use Rattle.ts_execution.specs.Turn.{IsStep}
+use Rattle.ts_db.specs.DbState.{DbState, DbView, Represents, Simulates, Drops}
+use Rattle.ts_execution.specs.Handling.{IsStep}
 use Rattle.ts_execution.proofs.Carried.{carries_as}
 
 -- deleting the remaining keys gives what deleting all of them gives
-pub record DropsOn (all rest : List Key) (count : ℕ) (from now : Held) : Type 0 where
+pub record DropsOn (all rest : List Key) (count : ℕ) (from now : DbState) : Type 0 where
   pub goes_on : drop_keys now.state count rest ≡ drop_keys from.state 0 all
   pub limits : now.limits ≡ from.limits
 
@@ -25,8 +25,8 @@ next_drops m key rest count after was is told =
     ∙ ap (λ (b : Bool). drop_keys (if b then dropped key m else m) (if b then count + 1 else count) rest) is
 
 -- one more key is deleted, if it exists
-pub drops_more : (initial old new : Stock) (all rest : List Key) (key : Key) (count after : ℕ) (was : Bool) → ((from : Held) → Stands old from → Drops key was from new)
-    → after ≡ (if was then count + 1 else count) → Carries initial old (λ from now. DropsOn all (key ∷ rest) count from now) → Carries initial new (λ from now. DropsOn all rest after from now)
+pub drops_more : (initial old new : DbView) (all rest : List Key) (key : Key) (count after : ℕ) (was : Bool) → ((from : DbState) → Represents old from → Drops key was from new)
+    → after ≡ (if was then count + 1 else count) → Simulates initial old (λ from now. DropsOn all (key ∷ rest) count from now) → Simulates initial new (λ from now. DropsOn all rest after from now)
 drops_more initial old new all rest key count after was each told carries = λ from stands.
     let a = carries from stands in
     let drops = each a.to a.stands in
@@ -37,7 +37,7 @@ drops_more initial old new all rest key count after was each told carries = λ f
     }
 
 -- all keys are deleted
-pub drops_all : (old new : Stock) (all : List Key) (count : ℕ) (reply : Reply) → reply ≡ number count → Carries old new (λ from now. DropsOn all [] count from now)
-    → Carries old new (λ from to. IsStep (drop_keys from.state 0 all) from reply to)
+pub drops_all : (old new : DbView) (all : List Key) (count : ℕ) (reply : Reply) → reply ≡ number count → Simulates old new (λ from now. DropsOn all [] count from now)
+    → Simulates old new (λ from to. IsStep (drop_keys from.state 0 all) from reply to)
 drops_all old new all count reply is carries = carries_as old new (λ from now. DropsOn all [] count from now) (λ from to. IsStep (drop_keys from.state 0 all) from reply to)
     (λ from to on. record { says = is ∙ ap (λ o. reply_to o.response) on.goes_on; state = ap (λ o. o.state) on.goes_on; limits = on.limits }) carries

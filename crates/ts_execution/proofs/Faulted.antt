@@ -15,13 +15,13 @@ use Rattle.ts_command.specs.Faults.{message}
 use Rattle.ts_command.proofs.AnswerLemmas.{IsFaultOfWords, IsWantOfMemory, fault-or-memory}
 use Rattle.ts_questions.specs.Answering.{IsShort}
 use Rattle.ts_questions.proofs.Short.{short_memory}
-use Rattle.ts_execution.specs.Turn.{World, IsRefused, IsUnread, TurnBy, turn}
+use Rattle.ts_execution.specs.Handling.{World, IsRefused, IsOutOfMemoryReading, HandlesBy, handles}
 use Rattle.ts_execution.proofs.ShortAnswers.{short_fault}
 use Rattle.ts_execution.proofs.Lists.{lists_no_quit}
 
 -- invalid arguments are answered by their error, or by out of memory
 pub refused_or_unread : (words : Request) (fault : CommandFault) (from : World) (written : List ℕ) → IsFaultIn words fault → written ≡ text (Error (message fault))
-    → ((f : Fault) × (command words ≡ Err f) × IsRefused f from written from) ⊎ IsUnread words from written from
+    → ((f : Fault) × (command words ≡ Err f) × IsRefused f from written from) ⊎ IsOutOfMemoryReading words from written from
 refused_or_unread words fault from written is says =
     ⊎_elim
     (λ (in_words : IsFaultOfWords words fault). inl (
@@ -39,12 +39,12 @@ refused_or_unread words fault from written is says =
     }))
     (fault-or-memory words fault is)
 
-pub faulted : (words : Request) (fault : CommandFault) (from : World) (written : List ℕ) → IsFaultIn words fault → written ≡ text (Error (message fault)) → turn from words written from
+pub faulted : (words : Request) (fault : CommandFault) (from : World) (written : List ℕ) → IsFaultIn words fault → written ≡ text (Error (message fault)) → handles from words written from
 faulted words fault from written is says =
     ⊎_elim
     (λ (refused : (f : Fault) × (command words ≡ Err f) × IsRefused f from written from).
-    inl (subst (λ (r : Result Command Fault). TurnBy r from written from) (sym refused.1) refused.2))
-    (λ (unread : IsUnread words from written from). inr unread)
+    inl (subst (λ (r : Result Command Fault). HandlesBy r from written from) (sym refused.1) refused.2))
+    (λ (unread : IsOutOfMemoryReading words from written from). inr unread)
     (refused_or_unread words fault from written is says)
 
 -- arguments that were answered by an error or by out of memory are not QUIT

@@ -11,10 +11,10 @@ pub mod NoChange
 pub mod NoItems
 pub mod OneStep
 pub mod Records
-pub mod RestoredTriples
-pub mod Restores
+pub mod ReplayedTriples
+pub mod ReplayedCommands
 pub mod TripleItems
-pub mod Turned
+pub mod Handlings
 pub mod WholeLoads
 pub mod Yielding
 pub mod MissingKey

@@ -12,14 +12,14 @@ use Rattle.ts_spec.specs.Key.{Key}
 use Rattle.ts_spec.specs.Keyed.{get, count_keys, with_key}
 use Rattle.ts_spec.specs.Refusal.{Refusal, NoKey, TooOld, OutOfRange, SamplesFull, LabelsFull, KeysFull}
 use Rattle.ts_spec.specs.Response.{Response, Count, Refused}
-use Rattle.ts_spec.specs.Rules.{shown, written, Merged, Refuse, Keep, To, merge}
+use Rattle.ts_spec.specs.Rules.{shown, written, Merged, Refuse, KeepOld, To, merge}
 use Rattle.ts_spec.specs.Merging.{within_bound}
 use Rattle.ts_spec.specs.State.{Record, State, edge}
 use Rattle.ts_spec.specs.Step.{Outcome, refused, fresh, first_full, rules_at, unless_full, shows_more, within_destinations, write_merged, value_at, unless_ignored, write, add_at}
 use Rattle.ts_spec.specs.Ignoring.{ignored}
 use Rattle.ts_spec.specs.Value.{bound}
-use Rattle.ts_db.specs.Held.{YieldsToMemory}
-use Rattle.ts_db.specs.PutBy.{put_by_at}
+use Rattle.ts_db.specs.DbState.{AllowsOutOfMemory}
+use Rattle.ts_db.specs.PutBy.{put_with_policy_at}
 
 -- the response is not that the key does not exist
 abbrev Knows : Response → Type 0
@@ -48,7 +48,7 @@ module _ (limits : Limits) (m : State) (key : Key) (t : ℕ) where
 
   merged : (what : Merged) → what ≢ Refuse NoKey → Knows (write_merged limits m key t what).response
   merged (Refuse r) apart is = let same : r ≡ NoKey = cc is in apart (ap (λ (x : Refusal). Refuse x) same)
-  merged Keep apart is = absurd (cc is)
+  merged KeepOld apart is = absurd (cc is)
   merged (To v) apart is = kept_within v is
 
   bounded : (v : ℤ) → within_bound v ≢ Refuse NoKey
@@ -58,7 +58,7 @@ module _ (limits : Limits) (m : State) (key : Key) (t : ℕ) where
       go true is = absurd (cc is)
       go false is = absurd (cc is)
 
-  kept : (b : Bool) (v : ℤ) → (if b then To v else Keep) ≢ Refuse NoKey
+  kept : (b : Bool) (v : ℤ) → (if b then To v else KeepOld) ≢ Refuse NoKey
   kept true v is = absurd (cc is)
   kept false v is = absurd (cc is)
 
@@ -81,7 +81,7 @@ module _ (limits : Limits) (m : State) (key : Key) (t : ℕ) where
       choice (nat_lt t (edge d)) (refused m TooOld) (unless_ignored m (ignored m key d t v) step) (other TooOld (λ is. absurd (cc is)))
       (unless (ignored m key d t v) step (merged (merge (By policy) (value_at t (shown m key)) v) (met policy (value_at t (shown m key)) v)))
 
-  pub missing : (v : ℤ) (on : Option Policy) (o : Option Record) → put_by_at limits m key t v on o ≡ refused m NoKey → o ≡ None
+  pub missing : (v : ℤ) (on : Option Policy) (o : Option Record) → put_with_policy_at limits m key t v on o ≡ refused m NoKey → o ≡ None
   missing v on None is = refl
   missing v on (Some d) is = absurd (writes (unwrap_or on d.options.policy) d v (ap (λ (s : Outcome). s.response) is))
 
@@ -105,6 +105,6 @@ module _ (limits : Limits) (m : State) (key : Key) (t : ℕ) (v : ℤ) (on : Opt
   pub add-full : (o : Option Record) (b : Bool) → o ≡ None → b ≡ nat_le limits.keys (count_keys m) → b ≡ true → add_at limits m key t v on spec o ≡ refused m KeysFull
   add-full o b missing is full = by-room o b missing is ∙ ap (λ c. if c then refused m KeysFull else made) full
 
-  pub add-yields : (o : Option Record) (b : Bool) → o ≡ None → b ≡ nat_le limits.keys (count_keys m) → b ≡ false → YieldsToMemory (add_at limits m key t v on spec o).response
+  pub add-yields : (o : Option Record) (b : Bool) → o ≡ None → b ≡ nat_le limits.keys (count_keys m) → b ≡ false → AllowsOutOfMemory (add_at limits m key t v on spec o).response
   add-yields o b missing is room =
-      subst (λ (s : Outcome). YieldsToMemory s.response) (sym (by-room o b missing is ∙ ap (λ c. if c then refused m KeysFull else made) room)) tt
+      subst (λ (s : Outcome). AllowsOutOfMemory s.response) (sym (by-room o b missing is ∙ ap (λ c. if c then refused m KeysFull else made) room)) tt

@@ -16,7 +16,7 @@ use Rattle.ts_spec.specs.Outcome.{Outcome, refused, answer_only, time_of}
 use Rattle.ts_spec.specs.Refusal.{KeyExists, KeysFull, LabelsFull, TooOld, BeforeLast, SamplesFull, DeleteBeyondRetention, SameKey, SourceIsDest, DestIsSource, DestHasSource, RulesSpent, RulesFull, NoRule}
 use Rattle.ts_spec.specs.Replies.{reply_to}
 use Rattle.ts_spec.specs.Response.{Response, Done, Count}
-use Rattle.ts_spec.specs.Rules.{Merged, Refuse, Keep, To, merge, shown, within_bound, written, deleted, without_rule, dropped, settled}
+use Rattle.ts_spec.specs.Rules.{Merged, Refuse, KeepOld, To, merge, shown, within_bound, written, deleted, without_rule, dropped, settled}
 use Rattle.ts_spec.specs.Sample.{Point, last_of, between}
 use Rattle.ts_spec.specs.State.{Record, State, link_to, rule_to, change, edge}
 use Rattle.ts_spec.specs.Writing.{shows_more, first_full, rules_at, unless_full, within_destinations, value_at, unless_ignored, write_merged, write, add_at, is_before_last, changed_value, increased, incr_at, meets_expired, delete_at}
@@ -65,7 +65,7 @@ ignored-none m (Some t) done h = line refl
 
 merged-none : (limits : Limits) (m : State) (key : Key) (t : ℕ) (met : Merged) → HasNone (write_merged limits m key t met)
 merged-none limits m key t (Refuse refusal) = line refl
-merged-none limits m key t Keep = line refl
+merged-none limits m key t KeepOld = line refl
 merged-none limits m key t (To v) =
     let done : Outcome = record { state = written key t v m; response = Count t } in
     either (shows_more limits.samples done.state key) (refused m SamplesFull) (within_destinations limits m key done) (line refl)
@@ -83,7 +83,7 @@ add-none limits m key t v on s (Some d) = write-none limits m key d (By (unwrap_
 increased-none : (limits : Limits) (m : State) (key : Key) (d : Record) (t : ℕ) (met : Merged) → HasNone (increased limits m key d t met)
 increased-none limits m key d t (To v) = ignored-none m (ignored m key d t v) (write_merged limits m key t (To v)) (merged-none limits m key t (To v))
 increased-none limits m key d t (Refuse refusal) = line refl
-increased-none limits m key d t Keep = line refl
+increased-none limits m key d t KeepOld = line refl
 
 incr-none : (limits : Limits) (m : State) (key : Key) (change : ℤ) (t : ℕ) (s : Spec) (there : Option Record) → HasNone (incr_at limits m key change t s there)
 incr-none limits m key change t s None = new_key-none limits m key (fresh s (record { time = t; value = change; made = 0 } ∷ []) (Some t)) (Count t) refl

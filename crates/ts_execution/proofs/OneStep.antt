@@ -9,8 +9,8 @@ use Rattle.ts_spec.specs.State.{State}
 use Rattle.ts_spec.specs.Step.{Outcome, step, madd, triple_step, item_of}
 use Rattle.ts_spec.specs.Text.{Reply}
 use Rattle.ts_spec.specs.declared.limits.Limits.{Limits}
-use Rattle.ts_db.specs.Held.{Held}
-use Rattle.ts_execution.specs.Turn.{IsItem, IsItemLost, IsStep, HaveItems, HasAllItems}
+use Rattle.ts_db.specs.DbState.{DbState}
+use Rattle.ts_execution.specs.Handling.{IsItem, ItemRunsOutOfMemory, IsStep, HaveItems, HasAllItems}
 
 -- an item other than out of memory
 abbrev IsNoWant : Reply → Type 0
@@ -57,10 +57,10 @@ module _ (limits : Limits) (reading : ℕ) where
       ⊎_elim
       (λ (item : IsItem done told.first told.mid). tells-more triple triples old told.mid new so_far items told.first told.others told.split item
       (tells triples told.mid new (so_far ++ item_of done.response) told.others told.after (All-tail IsNoWant told.first told.others all)))
-      (λ (lost : IsItemLost done triple old told.first told.mid). absurd (All-head IsNoWant told.first told.others all lost.reply))
+      (λ (lost : ItemRunsOutOfMemory done triple old told.first told.mid). absurd (All-head IsNoWant told.first told.others all lost.reply))
       told.here
 
-pub all_items_are_a_step : (reading : ℕ) (triples : List Triple) (old new : Held) (reply : Reply) → (all : HasAllItems reading triples old reply new)
+pub all_items_are_a_step : (reading : ℕ) (triples : List Triple) (old new : DbState) (reply : Reply) → (all : HasAllItems reading triples old reply new)
     → All (λ item. item ≢ memory_reply) all.items → IsStep (step old.limits old.state reading (Madd triples)) old reply new
 all_items_are_a_step reading triples old new reply all memory =
     let told : Tells (madd old.limits old.state reading [] triples) [] all.items new.state = tells old.limits reading triples old.state new.state [] all.items all.each memory in

@@ -16,7 +16,7 @@ use Rattle.ts_db.specs.declared.fault.DbFault.{DbFault}
 use Rattle.std.proofs.lemmas.Bool.Decides.{nat_tests}
 use Rattle.ts_questions.proofs.Short.{short_error}
 use Rattle.ts_questions.specs.Answering.{IsShort}
-use Rattle.ts_execution.specs.Turn.{is_long}
+use Rattle.ts_execution.specs.Handling.{is_long}
 use Rattle.ts_execution.specs.Answers.{reply_of_done, reply_of_number}
 
 -- a number of 64 bits has at most 20 digits

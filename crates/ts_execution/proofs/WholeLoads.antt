@@ -10,34 +10,34 @@ use Rattle.ts_spec.specs.State.{State}
 use Rattle.ts_spec.specs.Wire.{Partial, Mode, Start, Text, Count, CountFeed, Mark, Length, LengthFeed, Body, WordReturn, WordFeed, Move, Goto, Whole, Fault, move, stream_at}
 use Rattle.ts_spec.specs.declared.limits.Limits.{Limits}
 use Rattle.ts_spec.specs.declared.wire.WireLimits.{WireLimits}
-use Rattle.ts_db.specs.Held.{Held, Stock, Carries}
+use Rattle.ts_db.specs.DbState.{DbState, DbView, Simulates}
 use Rattle.ts_journal.specs.Limits.{journal_limits}
 use Rattle.ts_journal.specs.Loading.{Loads, load_on, load_from}
-use Rattle.ts_execution.specs.Restoring.{loads_by, loads, HasGivenAll, IsCurrent, LoadsOn, Takes, IsLoaded, EndsWithin, verdict, verdict_by}
+use Rattle.ts_execution.specs.JournalReplay.{loads_by, loads, HasNoWholeRequest, IsCurrent, LoadsOn, ReplaysPiece, IsLoaded, EndsWithin, verdict, verdict_by}
 use Rattle.ts_execution.specs.declared.loading.Loaded.{Loaded}
 use Rattle.ts_execution.specs.declared.loading.Loading.{Loading}
 use Rattle.ts_execution.proofs.Carried.{carries_none, carries_as, carries_then}
 use Rattle.ts_execution.proofs.Loadings.{loads-whole}
 
 -- these bytes, a prefix of the journal, lead from one state to the other
-pub record LoadsFrom (wire : WireLimits) (bytes : List ℕ) (now : Loading) (from to : Held) : Type 0 where
+pub record LoadsFrom (wire : WireLimits) (bytes : List ℕ) (now : Loading) (from to : DbState) : Type 0 where
   pub limits : to.limits ≡ from.limits
   pub on : (size : ℕ) (more : List ℕ) → load_on from.limits from.state 0 size (stream_at (journal_limits wire) 0 (bytes ++ more)) ≡ loads from.limits now to.state size more
 
 -- this many bytes were read, and their requests replayed
-pub record ReadSoFar (wire : WireLimits) (left rest : Option (List ℕ)) (taken : ℕ) (a b : Stock) (now : Loading) : Type 0 where
+pub record ReadSoFar (wire : WireLimits) (left rest : Option (List ℕ)) (taken : ℕ) (a b : DbView) (now : Loading) : Type 0 where
   pub bytes : List ℕ
   pub took : Consumes left rest bytes
   pub count : length bytes ≡ taken
-  pub goes : Carries a b (λ from to. LoadsFrom wire bytes now from to)
+  pub goes : Simulates a b (λ from to. LoadsFrom wire bytes now from to)
 
-pub read-none : (wire : WireLimits) (left : Option (List ℕ)) (now : Loading) (stock : Stock) → ((more : List ℕ) → stream_of now.reader more ≡ stream_at (journal_limits wire) 0 more) → now.end ≡ 0
-    → now.broken ≡ None → ReadSoFar wire left left 0 stock stock now
-read-none wire left now stock stream end whole = record {
+pub read-none : (wire : WireLimits) (left : Option (List ℕ)) (now : Loading) (db_view : DbView) → ((more : List ℕ) → stream_of now.reader more ≡ stream_at (journal_limits wire) 0 more) → now.end ≡ 0
+    → now.broken ≡ None → ReadSoFar wire left left 0 db_view db_view now
+read-none wire left now db_view stream end whole = record {
   bytes = [];
   took = Consumes-nil left;
   count = refl;
-  goes = carries_none stock (λ from to. LoadsFrom wire [] now from to)
+  goes = carries_none db_view (λ from to. LoadsFrom wire [] now from to)
       (λ from stands. record {
         limits = refl;
         on = λ size more. ap (load_on from.limits from.state 0 size) (sym (stream more)) ∙ ap (λ (e : ℕ). load_on from.limits from.state e size (stream_of now.reader more)) (sym end)
@@ -46,8 +46,8 @@ read-none wire left now stock stream end whole = record {
 }
 
 -- one more piece
-pub read-more : (wire : WireLimits) (left between rest : Option (List ℕ)) (taken count : ℕ) (old new : Loading) (a b c : Stock) → ReadSoFar wire left between taken a b old
-    → Takes count between rest old new b c → ReadSoFar wire left rest (taken + count) a c new
+pub read-more : (wire : WireLimits) (left between rest : Option (List ℕ)) (taken count : ℕ) (old new : Loading) (a b c : DbView) → ReadSoFar wire left between taken a b old
+    → ReplaysPiece count between rest old new b c → ReadSoFar wire left rest (taken + count) a c new
 read-more wire left between rest taken count old new a b c so takes = record {
   bytes = so.bytes ++ takes.bytes;
   took = Consumes-trans left between rest so.bytes takes.bytes so.took takes.took;
@@ -61,8 +61,8 @@ read-more wire left between rest taken count old new a b c so takes = record {
 }
 
 -- a piece without bytes
-read-last : (wire : WireLimits) (left between rest : Option (List ℕ)) (taken count : ℕ) (old new : Loading) (a b c : Stock) → count ≡ 0 → ReadSoFar wire left between taken a b old
-    → Takes count between rest old new b c → ReadSoFar wire left rest taken a c new
+read-last : (wire : WireLimits) (left between rest : Option (List ℕ)) (taken count : ℕ) (old new : Loading) (a b c : DbView) → count ≡ 0 → ReadSoFar wire left between taken a b old
+    → ReplaysPiece count between rest old new b c → ReadSoFar wire left rest taken a c new
 read-last wire left between rest taken count old new a b c none so takes =
     subst (λ (n : ℕ). ReadSoFar wire left rest n a c new) (omega (arith, none)) (read-more wire left between rest taken count old new a b c so takes)
 
@@ -78,7 +78,7 @@ loaded-at : (limits : Limits) (m : State) (end size : ℕ) (place : Option ℕ) 
 loaded-at limits m end size None = refl
 loaded-at limits m end size (Some place) = refl
 
-found-at : (broken : Option ℕ) (wire : WireLimits) (now : Loading) (from to : Held) (bytes : List ℕ) (taken : ℕ) → to.limits ≡ from.limits → length bytes ≡ taken → IfNone broken (HasGivenAll now.reader)
+found-at : (broken : Option ℕ) (wire : WireLimits) (now : Loading) (from to : DbState) (bytes : List ℕ) (taken : ℕ) → to.limits ≡ from.limits → length bytes ≡ taken → IfNone broken (HasNoWholeRequest now.reader)
     → load_from from.limits wire from.state bytes ≡ loads_by broken from.limits now to.state (length bytes) [] → IsLoaded (verdict_by broken now.reader taken) wire from to bytes
 found-at (Some place) wire now from to bytes taken limits count current loads = loads
 found-at None wire now from to bytes taken limits count current loads = (
@@ -87,8 +87,8 @@ found-at None wire now from to bytes taken limits count current loads = (
   limits,
 )
 
-read-all : (wire : WireLimits) (left rest : Option (List ℕ)) (taken : ℕ) (now : Loading) (a b : Stock) (answer : Loaded) → answer ≡ verdict now taken → ReadSoFar wire left rest taken a b now
-    → IsAtEnd rest → IsCurrent now → Carries a b (λ from to. (bytes : List ℕ) → left ≡ Some bytes → IsLoaded answer wire from to bytes)
+read-all : (wire : WireLimits) (left rest : Option (List ℕ)) (taken : ℕ) (now : Loading) (a b : DbView) (answer : Loaded) → answer ≡ verdict now taken → ReadSoFar wire left rest taken a b now
+    → IsAtEnd rest → IsCurrent now → Simulates a b (λ from to. (bytes : List ℕ) → left ≡ Some bytes → IsLoaded answer wire from to bytes)
 read-all wire left rest taken now a b answer answered so at_end current =
     carries_as a b (λ from to. LoadsFrom wire so.bytes now from to) (λ from to. (bytes : List ℕ) → left ≡ Some bytes → IsLoaded answer wire from to bytes)
     (λ from to is bytes told.
@@ -100,10 +100,10 @@ read-all wire left rest taken now a b answer answered so at_end current =
 unread-start : (content : Option (List ℕ)) (place : ℕ) (bytes : List ℕ) → place ≡ 0 → content ≡ Some bytes → unread content place ≡ Some bytes
 unread-start content place bytes start told = ap (unread content) start ∙ ap (λ (o : Option (List ℕ)). unread o 0) told
 
-module _ (wire : WireLimits) (content rest : Option (List ℕ)) (place taken : ℕ) (start : place ≡ 0) (now : Loading) (a b : Stock) (so : ReadSoFar wire (unread content place) rest taken a b now) where
+module _ (wire : WireLimits) (content rest : Option (List ℕ)) (place taken : ℕ) (start : place ≡ 0) (now : Loading) (a b : DbView) (so : ReadSoFar wire (unread content place) rest taken a b now) where
   -- the result is final if the journal was read from start to end
   read-from-start : (answer : Loaded) → answer ≡ verdict now taken → IsAtEnd rest → IsCurrent now
-      → Carries a b (λ from to. (bytes : List ℕ) → content ≡ Some bytes → IsLoaded answer wire from to bytes)
+      → Simulates a b (λ from to. (bytes : List ℕ) → content ≡ Some bytes → IsLoaded answer wire from to bytes)
   read-from-start answer answered at_end current =
       carries_as a b (λ from to. (bytes : List ℕ) → unread content place ≡ Some bytes → IsLoaded answer wire from to bytes) (λ from to. (bytes : List ℕ) → content ≡ Some bytes → IsLoaded answer wire from to bytes)
       (λ from to all bytes told. all bytes (unread-start content place bytes start told)) (read-all wire (unread content place) rest taken now a b answer answered so at_end current)
@@ -117,9 +117,9 @@ module _ (wire : WireLimits) (content rest : Option (List ℕ)) (place taken : �
       most (Some ys) took = omega (arith, so.count, ap length took, length-append so.bytes ys)
 
 -- a read without bytes ends it
-pub read-to-end : (wire : WireLimits) (content between rest : Option (List ℕ)) (place taken count : ℕ) → place ≡ 0 → (old new : Loading) (a b c : Stock) → ReadSoFar wire (unread content place) between taken a b old
-    → Takes count between rest old new b c → count ≡ 0 → IsAtEnd rest → (answer : Loaded) → answer ≡ verdict new taken
-    → Carries a c (λ from to. (bytes : List ℕ) → content ≡ Some bytes → IsLoaded answer wire from to bytes)
+pub read-to-end : (wire : WireLimits) (content between rest : Option (List ℕ)) (place taken count : ℕ) → place ≡ 0 → (old new : Loading) (a b c : DbView) → ReadSoFar wire (unread content place) between taken a b old
+    → ReplaysPiece count between rest old new b c → count ≡ 0 → IsAtEnd rest → (answer : Loaded) → answer ≡ verdict new taken
+    → Simulates a c (λ from to. (bytes : List ℕ) → content ≡ Some bytes → IsLoaded answer wire from to bytes)
 read-to-end wire content between rest place taken count start old new a b c so takes none at_end answer answered =
     read-from-start wire content rest place taken start new a c (read-last wire (unread content place) between rest taken count old new a b c none so takes) answer answered at_end takes.current
 
@@ -130,8 +130,8 @@ sizes bytes first second (Some ys) None one two none at_end = absurd two
 sizes bytes first second (Some ys) (Some zs) one two none at_end =
     omega (arith, ap length one, length-append first ys, ap length two, length-append second zs, none, ap length at_end)
 
-pub whole-size : (wire : WireLimits) (content between rest : Option (List ℕ)) (place taken count : ℕ) → place ≡ 0 → (old new : Loading) (a b c : Stock) → ReadSoFar wire (unread content place) between taken a b old
-    → Takes count between rest old new b c → count ≡ 0 → IsAtEnd rest → (bytes : List ℕ) → content ≡ Some bytes → length bytes ≡ taken
+pub whole-size : (wire : WireLimits) (content between rest : Option (List ℕ)) (place taken count : ℕ) → place ≡ 0 → (old new : Loading) (a b c : DbView) → ReadSoFar wire (unread content place) between taken a b old
+    → ReplaysPiece count between rest old new b c → count ≡ 0 → IsAtEnd rest → (bytes : List ℕ) → content ≡ Some bytes → length bytes ≡ taken
 whole-size wire content between rest place taken count start old new a b c so takes none at_end bytes told =
     sizes bytes so.bytes takes.bytes between rest (subst (λ (o : Option (List ℕ)). Consumes o between so.bytes) (unread-start content place bytes start told) so.took)
     takes.took (takes.count ∙ none) at_end ∙ so.count
@@ -182,7 +182,7 @@ least None taken bound is within = within
 least (Some place) taken bound is within = is
 
 -- the complete requests end within the bytes read
-ends-by : (broken : Option ℕ) (r : Reading) (taken read : ℕ) → IfNone broken (HasGivenAll r) → fed r ≤ taken → taken ≤ read → EndsWithin (verdict_by broken r taken) read
+ends-by : (broken : Option ℕ) (r : Reading) (taken read : ℕ) → IfNone broken (HasNoWholeRequest r) → fed r ≤ taken → taken ≤ read → EndsWithin (verdict_by broken r taken) read
 ends-by (Some place) r taken read current within before = tt
 ends-by None r taken read current within before =
     least (unfinished r) taken read (at-within r.so_far r.limits r.place r.begin read r.unread (omega (arith, current.begun, within, before)) (omega (arith, within, before))) before

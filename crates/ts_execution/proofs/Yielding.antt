@@ -5,10 +5,10 @@ use Rattle.ts_spec.specs.Command.{Triple}
 use Rattle.ts_spec.specs.Response.{Item}
 use Rattle.ts_spec.specs.State.{State}
 use Rattle.ts_spec.specs.Step.{Outcome, madd, triple_step, item_of}
-use Rattle.ts_db.specs.Held.{YieldsToMemory}
+use Rattle.ts_db.specs.DbState.{AllowsOutOfMemory}
 
 -- TS.MADD as a whole never fails
-pub madd_yields : (limits : Limits) (m : State) (reading : ℕ) (so_far : List Item) (triples : List Triple) → YieldsToMemory (madd limits m reading so_far triples).response
+pub madd_yields : (limits : Limits) (m : State) (reading : ℕ) (so_far : List Item) (triples : List Triple) → AllowsOutOfMemory (madd limits m reading so_far triples).response
 madd_yields limits m reading so_far [] = tt
 madd_yields limits m reading so_far (x ∷ xs) =
     let done : Outcome = triple_step limits m reading x.key x.at x.value in

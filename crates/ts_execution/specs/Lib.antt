@@ -1,8 +1,8 @@
-pub mod Keeping
+pub mod Journaling
 pub mod Limits
 pub mod Recording
-pub mod Restoring
-pub mod Turn
-pub mod Turns
+pub mod JournalReplay
+pub mod Handling
+pub mod Handler
 pub mod Bounded
 pub mod Answers

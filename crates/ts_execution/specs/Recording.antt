@@ -6,9 +6,9 @@ use Rattle.ts_journal.specs.Record.{is_change, IsRecordOf}
 use Rattle.ts_journal.specs.declared.record.Record.{Record}
 
 -- the bytes of the record, given the reply's text; empty without a record
-abbrev pub told_by : Option Record → (reply : List ℕ) → List ℕ
-told_by None reply = []
-told_by (Some r) reply = told r reply
+abbrev pub record_bytes : Option Record → (reply : List ℕ) → List ℕ
+record_bytes None reply = []
+record_bytes (Some r) reply = told r reply
 
 -- a change has a record, and no other command has one
 abbrev pub HasRecord : (reading : ℕ) → Command → Option Record → Type 0

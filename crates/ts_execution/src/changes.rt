@@ -6,9 +6,9 @@ ghost use Rattle.ts_spec.specs.Step.{time_of, create, alter, add, incr, delete, 
 ghost use Rattle.ts_labels.specs.Spec.{spec_of, change_of};
 ghost use Rattle.ts_resp.specs.Replies.{reply_of};
 ghost use Rattle.ts_db.specs.Bounds.{write_steps, deletion_steps};
-ghost use Rattle.ts_db.specs.Held.{Carries, reach_at};
+ghost use Rattle.ts_db.specs.DbState.{Simulates, reach_at};
 ghost use Rattle.ts_questions.specs.Answering.{IsShort};
-ghost use Rattle.ts_execution.specs.Turn.{StepOrMemory, IsStep};
+ghost use Rattle.ts_execution.specs.Handling.{StepOrOutOfMemory, IsStep};
 
 use crate::answers::{done_reply, number_reply};
 use std::sync::ledger::Ledger;
@@ -20,8 +20,8 @@ use ts_spec::{Aggregator, At, Policy};
 
 /// The reply to TS.CREATE.
 pub(crate) fn create(db: &mut Db, key: Word, spec: Spec) -> Reply
-    ensures answer { Carries db.old db.new
-        (λ from to. StepOrMemory (create from.limits from.state key (spec_of spec)) from (reply_of result) to) }
+    ensures answer { Simulates db.old db.new
+        (λ from to. StepOrOutOfMemory (create from.limits from.state key (spec_of spec)) from (reply_of result) to) }
     ensures short { IsShort (reply_of result) }
 {
     done_reply(db.create(key, spec))
@@ -34,8 +34,9 @@ pub(crate) fn alter<L: Ledger>(
     change: Change,
     steps: &mut Steps<L>,
 ) -> Reply
-    ensures answer { Carries db.old db.new
-        (λ from to. StepOrMemory (alter from.limits from.state key.now (change_of change)) from (reply_of result) to) }
+    ensures answer { Simulates db.old db.new
+        (λ from to. StepOrOutOfMemory (alter from.limits from.state key.now (change_of change)) from (reply_of result)
+        to) }
     ensures short { IsShort (reply_of result) }
     ensures steps { steps.new ≤ steps.old + 2 * reach_at db.old key.now }
 {
@@ -53,8 +54,9 @@ pub(crate) fn add<L: Ledger>(
     steps: &mut Steps<L>,
 ) -> Reply
     requires { time ≤ MAX_TIME }
-    ensures answer { Carries db.old db.new
-        (λ from to. StepOrMemory (add from.limits from.state key time value on (spec_of spec)) from (reply_of result)
+    ensures answer { Simulates db.old db.new
+        (λ from to. StepOrOutOfMemory (add from.limits from.state key time value on (spec_of spec)) from
+        (reply_of result)
         to) }
     ensures short { IsShort (reply_of result) }
     ensures steps { steps.new ≤ steps.old + write_steps db.old key time }
@@ -72,8 +74,9 @@ pub(crate) fn incr<L: Ledger>(
     steps: &mut Steps<L>,
 ) -> Reply
     requires { time ≤ MAX_TIME }
-    ensures answer { Carries db.old db.new
-        (λ from to. StepOrMemory (incr from.limits from.state key change time (spec_of spec)) from (reply_of result)
+    ensures answer { Simulates db.old db.new
+        (λ from to. StepOrOutOfMemory (incr from.limits from.state key change time (spec_of spec)) from
+        (reply_of result)
         to) }
     ensures short { IsShort (reply_of result) }
     ensures steps { steps.new ≤ steps.old + write_steps db.old key time }
@@ -90,8 +93,8 @@ pub(crate) fn delete<L: Ledger>(
     steps: &mut Steps<L>,
 ) -> Reply
     requires time { from ≤ MAX_TIME }
-    ensures answer { Carries db.old db.new
-        (λ h h'. StepOrMemory (delete h.limits h.state key.now from to) h (reply_of result) h') }
+    ensures answer { Simulates db.old db.new
+        (λ h h'. StepOrOutOfMemory (delete h.limits h.state key.now from to) h (reply_of result) h') }
     ensures short { IsShort (reply_of result) }
     ensures steps { steps.new ≤ steps.old + deletion_steps db.old key.now from to }
 {
@@ -118,8 +121,8 @@ pub(crate) fn create_rule(
     agg: Aggregator,
     grid: Grid,
 ) -> Reply
-    ensures answer { Carries db.old db.new
-        (λ from to. StepOrMemory (create_rule from.limits from.state source.now dest.now agg grid) from
+    ensures answer { Simulates db.old db.new
+        (λ from to. StepOrOutOfMemory (create_rule from.limits from.state source.now dest.now agg grid) from
         (reply_of result) to) }
     ensures short { IsShort (reply_of result) }
 {
@@ -128,7 +131,7 @@ pub(crate) fn create_rule(
 
 /// The reply to TS.DELETERULE. Allocates nothing.
 pub(crate) fn delete_rule(db: &mut Db, source: &Word, dest: &Word) -> Reply
-    ensures answer { Carries db.old db.new
+    ensures answer { Simulates db.old db.new
         (λ from to. IsStep (delete_rule from.state source.now dest.now) from (reply_of result) to) }
     ensures short { IsShort (reply_of result) }
 {

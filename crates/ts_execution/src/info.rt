@@ -1,11 +1,11 @@
 // TS.INFO: properties of a series and of its storage.
 ghost use Rattle.std.specs.Prelude.{◌≡◌, ◌+◌, ◌*◌, ◌^◌, ◌<◌, ◌≤◌, [], length, map, true, false, Some, IfOk};
 ghost use Rattle.ts_spec.specs.Keyed.{get};
-ghost use Rattle.ts_spec.specs.Questions.{info_response};
+ghost use Rattle.ts_spec.specs.Queries.{info_response};
 ghost use Rattle.ts_spec.specs.Replies as spec;
 ghost use Rattle.ts_spec.specs.Text.{Simple, Value};
 ghost use Rattle.ts_resp.specs.Replies.{reply_of};
-ghost use Rattle.ts_db.specs.Held.{Held, Stands, reach_at};
+ghost use Rattle.ts_db.specs.DbState.{DbState, Represents, reach_at};
 ghost use Rattle.ts_db.specs.Information.{info_of, rule_info_of};
 ghost use Rattle.ts_questions.specs.Answering.{IsReplyText};
 
@@ -15,23 +15,23 @@ use std::sync::ledger::Ledger;
 use ts_agg::name;
 use ts_db::{Db, Info, RuleInfo};
 use ts_labels::Labels;
-use ts_questions::{put_no_memory, put_or_no_memory, refusal_reply};
+use ts_questions::{refusal_reply, write_or_out_of_memory, write_out_of_memory};
 use ts_resp::{Out, Reply, Word, put};
 use ts_sample::{Cell, Steps, Units};
 
 /// Writes the reply to TS.INFO.
-pub(crate) fn put_info<L: Ledger>(db: &Db, key: &Word, out: &mut Out, steps: &mut Steps<L>)
+pub(crate) fn write_info<L: Ledger>(db: &Db, key: &Word, out: &mut Out, steps: &mut Steps<L>)
     requires empty { out.old.bytes ≡ [] }
     requires room { 128 ≤ out.old.spare }
-    ensures reply { (from : Held) → Stands db.now from
+    ensures reply { (from : DbState) → Represents db.now from
         → IsReplyText (info_response from.state key.now (get key.now from.state)) out.new.bytes }
     ensures room { 128 ≤ length out.new.bytes + out.new.spare }
     ensures steps { steps.new ≤ steps.old + 2 * reach_at db.now key.now }
 {
     match db.info(key, steps) {
         Ok(info) => match info_reply(info) {
-            Ok(reply) => put_or_no_memory(&reply, out),
-            Err(_) => put_no_memory(out),
+            Ok(reply) => write_or_out_of_memory(&reply, out),
+            Err(_) => write_out_of_memory(out),
         },
         Err(fault) => put(&refusal_reply(fault), out),
     }

@@ -2,23 +2,23 @@
 //! replay of a journal.
 #![tactic(auto)]
 
-mod addition;
-mod additions;
 mod answers;
 mod changes;
 mod execution;
+mod handler;
+mod handling;
 mod info;
-mod keys;
+mod journal_replay;
 mod loading;
+mod multi_add;
 mod names;
 mod next_change;
+mod plain_add;
 mod recorded;
-mod restored;
-mod turn;
-mod turns;
+mod redis_commands;
 
 pub use execution::{execute, triples_with_memory_are_one_step};
+pub use handler::{Handler, Plain};
+pub use handling::handle_request;
 pub use loading::{Loaded, load};
-pub use recorded::{Taken, take_recorded};
-pub use turn::take_turn;
-pub use turns::{Plain, Turns};
+pub use recorded::{Handled, handle_recorded};

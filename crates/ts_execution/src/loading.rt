@@ -4,12 +4,13 @@ ghost use Rattle.std.specs.Io.KnownBytes.{IsAtEnd};
 ghost use Rattle.ts_io.specs.Causes.{Rose};
 ghost use Rattle.ts_io.specs.Logs.{unread, place_after};
 ghost use Rattle.ts_resp.specs.Reading.{fed};
-ghost use Rattle.ts_db.specs.Held.{Carries};
+ghost use Rattle.ts_db.specs.DbState.{Simulates};
 ghost use Rattle.ts_journal.specs.Limits.{IsBounded};
 ghost use Rattle.ts_execution.specs.Limits.{CanRead};
-ghost use Rattle.ts_execution.specs.Restoring.{LoadsIf, IsCurrent, Takes, IfRead, IsLoaded, IsJudged, EndsWithin, verdict};
+ghost use Rattle.ts_execution.specs.JournalReplay.{LoadsIf, IsCurrent, ReplaysPiece, IfRead, IsLoaded, IsJudged};
+ghost use Rattle.ts_execution.specs.JournalReplay.{EndsWithin, verdict};
 
-use crate::next_change::{Found, next_change};
+use crate::next_change::{NextChange, next_change};
 use std::alloc::Global;
 use std::marker::Brand;
 use std::sync::ledger::{Blank, Ledger};
@@ -72,12 +73,13 @@ pub fn load<J: Log>(
     requires limits { CanRead limits }
     requires bounded { IsBounded limits }
     requires start { J.place log.old ≡ 0 }
-    ensures loaded { Carries db.old db.new
+    ensures loaded { Simulates db.old db.new
         (λ from to. (bytes : List ℕ) → J.content log.old ≡ Some bytes → IsLoaded result limits from to bytes) }
     ensures content { J.content log.new ≡ J.content log.old }
     ensures within { EndsWithin result (J.place log.new) }
     ensures spent { result ≡ Loaded.Budget → J.place log.new ≡ budget }
-    ensures enough { (bytes : List ℕ) → J.content log.old ≡ Some bytes → result ≡ Loaded.Budget → budget ≤ length bytes }
+    ensures enough { (bytes : List ℕ) → J.content log.old ≡ Some bytes → result ≡ Loaded.Budget
+        → budget ≤ length bytes }
     ensures judged { (bytes : List ℕ) → J.content log.old ≡ Some bytes → IsJudged result → length bytes < budget }
     ensures later { J.faults log.old ≤ J.faults log.new }
     ensures fault { result ≡ Loaded.Fault → Rose (J.faults log.old) (J.faults log.new) }
@@ -108,10 +110,10 @@ fn read_piece<J: Log>(loading: &mut Loading, db: &mut Db, log: &mut J, buffer: &
     requires within { fed loading.old.reader + length buffer.old < 2 ^ 64 }
     requires room { 0 < length buffer.old }
     ensures takes { IfRead result
-        (λ count. Takes count (unread (J.content log.old) (J.place log.old))
+        (λ count. ReplaysPiece count (unread (J.content log.old) (J.place log.old))
         (unread (J.content log.new) (J.place log.new))
         loading.old loading.new db.old db.new) }
-    ensures carries { Carries db.old db.new (λ from to. ⊤) }
+    ensures carries { Simulates db.old db.new (λ from to. ⊤) }
     ensures at_end { result ≡ Piece.Read 0 → IsAtEnd (unread (J.content log.new) (J.place log.new)) }
     ensures bound { IfRead result (λ count. count ≤ length buffer.old) }
     ensures content { J.content log.new ≡ J.content log.old }
@@ -122,7 +124,7 @@ fn read_piece<J: Log>(loading: &mut Loading, db: &mut Db, log: &mut J, buffer: &
 {
     match log.read(buffer) {
         Ok(count) => {
-            if loading.take_piece::<Brand>(db, &buffer[..count], Blank::new(1)) {
+            if loading.replay_piece::<Brand>(db, &buffer[..count], Blank::new(1)) {
                 Piece::Read(count)
             } else {
                 Piece::Memory
@@ -145,55 +147,55 @@ impl Loading {
 
     // Replays the changes that this piece completes, unless the journal has already broken. Returns `false` if memory
     // ran out.
-    fn take_piece<L: Ledger>(&mut self, db: &mut Db, bytes: &[u8], blank: Blank) -> bool
+    fn replay_piece<L: Ledger>(&mut self, db: &mut Db, bytes: &[u8], blank: Blank) -> bool
         requires within { fed self.old.reader + length bytes.now < 2 ^ 64 }
         requires name { blank.name ≡ L.name }
         requires parts { blank.parts ≡ L.parts }
         requires some { 0 < blank.parts }
-        ensures loads { Carries db.old db.new (λ from to. LoadsIf result self.old self.new bytes.now from to) }
+        ensures loads { Simulates db.old db.new (λ from to. LoadsIf result self.old self.new bytes.now from to) }
         ensures current { result ≡ true → IsCurrent self.new }
         ensures fed { fed self.new.reader ≤ fed self.old.reader + length bytes.now }
     {
         match self.broken {
             Some(_) => true,
-            None => self.take_more::<L>(db, bytes, blank),
+            None => self.replay_more::<L>(db, bytes, blank),
         }
     }
 
     // The same for a journal that has not broken.
-    fn take_more<L: Ledger>(&mut self, db: &mut Db, bytes: &[u8], blank: Blank) -> bool
+    fn replay_more<L: Ledger>(&mut self, db: &mut Db, bytes: &[u8], blank: Blank) -> bool
         requires whole { self.old.broken ≡ None }
         requires within { fed self.old.reader + length bytes.now < 2 ^ 64 }
         requires name { blank.name ≡ L.name }
         requires parts { blank.parts ≡ L.parts }
         requires some { 0 < blank.parts }
-        ensures loads { Carries db.old db.new (λ from to. LoadsIf result self.old self.new bytes.now from to) }
+        ensures loads { Simulates db.old db.new (λ from to. LoadsIf result self.old self.new bytes.now from to) }
         ensures current { result ≡ true → IsCurrent self.new }
         ensures fed { fed self.new.reader ≤ fed self.old.reader + length bytes.now }
     {
         let mut steps = Steps::<L>::new(blank);
         match self.reader.feed(bytes) {
-            Ok(()) => self.take_all(db, &mut steps),
+            Ok(()) => self.replay_all(db, &mut steps),
             Err(_) => false,
         }
     }
 
     // Replays every complete change. Returns `false` if memory ran out.
-    fn take_all<L: Ledger>(&mut self, db: &mut Db, steps: &mut Steps<L>) -> bool
+    fn replay_all<L: Ledger>(&mut self, db: &mut Db, steps: &mut Steps<L>) -> bool
         requires whole { self.old.broken ≡ None }
-        ensures loads { Carries db.old db.new (λ from to. LoadsIf result self.old self.new [] from to) }
+        ensures loads { Simulates db.old db.new (λ from to. LoadsIf result self.old self.new [] from to) }
         ensures current { result ≡ true → IsCurrent self.new }
         ensures fed { fed self.new.reader ≡ fed self.old.reader }
     {
         loop {
             match next_change(&mut self.reader, self.end, db, &mut self.hints, steps) {
-                Found::Change(end) => self.end = end,
-                Found::Nothing => return true,
-                Found::Broken(place) => {
+                NextChange::Change(end) => self.end = end,
+                NextChange::Nothing => return true,
+                NextChange::Broken(place) => {
                     self.broken = Some(place);
                     return true;
                 }
-                Found::Memory => return false,
+                NextChange::Memory => return false,
             }
         }
     }

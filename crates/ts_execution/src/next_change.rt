@@ -1,10 +1,10 @@
 // Replays the next change of a journal.
 ghost use Rattle.std.specs.Prelude.{◌≡◌, ◌<◌, ◌≤◌};
 ghost use Rattle.ts_resp.specs.Reading.{fed};
-ghost use Rattle.ts_db.specs.Held.{Carries};
-ghost use Rattle.ts_execution.specs.Restoring.{Finds, IfChange, HasGivenAll, found_by};
+ghost use Rattle.ts_db.specs.DbState.{Simulates};
+ghost use Rattle.ts_execution.specs.JournalReplay.{IsNextChange, IfChange, HasNoWholeRequest, next_change_by};
 
-use crate::restored::{Restored, restore_request};
+use crate::journal_replay::{ReplayResult, replay_request};
 use std::sync::ledger::Ledger;
 use ts_db::{Db, Hints};
 use ts_resp::{Next, Reader};
@@ -12,7 +12,7 @@ use ts_sample::Steps;
 
 /// The result of replaying the next change.
 #[derive(Clone, Copy, Debug, PartialEq, Eq)]
-pub(crate) enum Found {
+pub(crate) enum NextChange {
     /// A change was replayed. It ends at this offset.
     Change(u64),
     /// No complete request is left.
@@ -30,31 +30,31 @@ pub(crate) fn next_change<L: Ledger>(
     db: &mut Db,
     hints: &mut Hints,
     steps: &mut Steps<L>,
-) -> Found
-    ensures finds { Carries db.old db.new (λ from to. Finds result reader.old reader.new end from to) }
+) -> NextChange
+    ensures finds { Simulates db.old db.new (λ from to. IsNextChange result reader.old reader.new end from to) }
     ensures onward { IfChange result (reader.old.begin < reader.new.begin) }
     ensures fed { fed reader.new ≡ fed reader.old }
     ensures within { reader.new.begin ≤ fed reader.new }
-    ensures all { result ≡ Found.Nothing → HasGivenAll reader.new }
+    ensures all { result ≡ NextChange.Nothing → HasNoWholeRequest reader.new }
 {
     match reader.next() {
         Next::Request(words) => {
-            let answer = restore_request(db, hints, words, steps);
-            found_by(answer, reader.begin(), end)
+            let answer = replay_request(db, hints, words, steps);
+            next_change_by(answer, reader.begin(), end)
         }
-        Next::NotYet => Found::Nothing,
-        Next::Broken(fault) => Found::Broken(fault.place),
-        Next::Memory => Found::Memory,
+        Next::NotYet => NextChange::Nothing,
+        Next::Broken(fault) => NextChange::Broken(fault.place),
+        Next::Memory => NextChange::Memory,
     }
 }
 
 // The result after a request that ends at `after`, where the requests before it end at `before`.
-fn found_by(answer: Restored, after: u64, before: u64) -> Found
-    ensures { result ≡ found_by answer after before }
+fn next_change_by(answer: ReplayResult, after: u64, before: u64) -> NextChange
+    ensures { result ≡ next_change_by answer after before }
 {
     match answer {
-        Restored::Accepted => Found::Change(after),
-        Restored::Refused => Found::Broken(before),
-        Restored::Memory => Found::Memory,
+        ReplayResult::Accepted => NextChange::Change(after),
+        ReplayResult::Refused => NextChange::Broken(before),
+        ReplayResult::Memory => NextChange::Memory,
     }
 }

@@ -4,35 +4,35 @@ ghost use Rattle.std.specs.Prelude.{IfSome, IfNone};
 ghost use Rattle.ts_spec.specs.Run.{is_quit};
 ghost use Rattle.ts_command.specs.Answers.{HasTime};
 ghost use Rattle.ts_command.specs.Reading.{command_of};
-ghost use Rattle.ts_db.specs.Held.{Carries};
+ghost use Rattle.ts_db.specs.DbState.{Simulates};
 ghost use Rattle.ts_journal.specs.Record.{is_change, IsRecordOf};
 ghost use Rattle.ts_journal.specs.Content.{told};
-ghost use Rattle.ts_execution.specs.Keeping.{Recorded, IsRecorded};
-ghost use Rattle.ts_execution.specs.Recording.{told_by, HasRecord};
+ghost use Rattle.ts_execution.specs.Journaling.{Recorded, IsRecorded};
+ghost use Rattle.ts_execution.specs.Recording.{record_bytes, HasRecord};
 
 use crate::answers::fault_reply;
-use crate::execution::execute_near;
-use crate::turn::{reading_for, says_quit};
+use crate::execution::execute_with_hints;
+use crate::handling::{reading_for, says_quit};
 use std::alloc::{AllocError, Global};
 use std::sync::ledger::Ledger;
 use ts_command::{Command, read};
 use ts_db::{Db, Hints};
 use ts_io::Clock;
 use ts_journal::Record;
-use ts_questions::put_no_memory;
+use ts_questions::write_out_of_memory;
 use ts_resp::{Out, Word, put};
 use ts_sample::Steps;
 
 /// The result of a handled request: whether it was QUIT, and its record if it is a change.
 #[derive(Drop)]
-pub struct Taken {
+pub struct Handled {
     pub quits: bool,
     pub entry: Option<Record>,
 }
 
 /// Handles a request and leaves its reply in `room`. Allocates its record before it executes the request; if that
 /// fails, the request fails with out of memory.
-pub fn take_recorded<C: Clock, L: Ledger>(
+pub fn handle_recorded<C: Clock, L: Ledger>(
     alloc: Global,
     db: &mut Db,
     hints: &mut Hints,
@@ -40,11 +40,12 @@ pub fn take_recorded<C: Clock, L: Ledger>(
     clock: &mut C,
     room: &mut Out,
     steps: &mut Steps<L>,
-) -> Taken
+) -> Handled
     requires { 128 ≤ length room.old.bytes + room.old.spare }
-    ensures recorded { Carries db.old db.new
+    ensures recorded { Simulates db.old db.new
         (λ from to. Recorded words.items (record { held = from; readings = C.readings clock.old })
-        room.new.bytes (told_by result.entry room.new.bytes) (record { held = to; readings = C.readings clock.new })) }
+        room.new.bytes (record_bytes result.entry room.new.bytes)
+        (record { held = to; readings = C.readings clock.new })) }
     ensures quits { result.quits ≡ is_quit words.items }
     ensures room { 128 ≤ length room.new.bytes + room.new.spare }
 {
@@ -52,12 +53,12 @@ pub fn take_recorded<C: Clock, L: Ledger>(
         Ok(command) => {
             let quits = says_quit(&command);
             let entry = execute_recorded(alloc, db, hints, command, clock, room, steps);
-            Taken { quits, entry }
+            Handled { quits, entry }
         }
         Err(fault) => {
             room.clear();
             put(&fault_reply(fault), room);
-            Taken {
+            Handled {
                 quits: false,
                 entry: None,
             }
@@ -77,20 +78,20 @@ fn execute_recorded<C: Clock, L: Ledger>(
 ) -> Option<Record>
     requires room { 128 ≤ length room.old.bytes + room.old.spare }
     requires time { HasTime command }
-    ensures recorded { Carries db.old db.new
+    ensures recorded { Simulates db.old db.new
         (λ from to. IsRecorded (command_of command) (record { held = from; readings = C.readings clock.old })
-        room.new.bytes (told_by result room.new.bytes) (record { held = to; readings = C.readings clock.new })) }
+        room.new.bytes (record_bytes result room.new.bytes) (record { held = to; readings = C.readings clock.new })) }
     ensures room { 128 ≤ length room.new.bytes + room.new.spare }
 {
     let reading = reading_for(&command, clock);
     match record_for(alloc, &command, reading) {
         Ok(entry) => {
-            execute_near(db, hints, command, reading, room, steps);
+            execute_with_hints(db, hints, command, reading, room, steps);
             entry
         }
         Err(_) => {
             room.clear();
-            put_no_memory(room);
+            write_out_of_memory(room);
             None
         }
     }

@@ -11,7 +11,7 @@ use Rattle.std.specs.Prelude.{codes, sum_by}
 use Rattle.ts_spec.specs.Encoded.{Fits}
 use Rattle.ts_spec.specs.Limits.{usual}
 use Rattle.ts_spec.specs.Wire.{Request}
-use Rattle.ts_gen.specs.Workload.{key, raw, create, create_rule, for_each_unit, set_up, drawn, second_before, delete, value, time, add, change, changes, question, workload}
+use Rattle.ts_gen.specs.Workload.{key, raw, create, create_rule, for_each_unit, set_up, generator_state, second_before, delete, value, time, add, change, changes, final_query, workload}
 
 -- a property of each item of a list, item by item
 data Each {X : Type 0} (P : X → Type 0) : List X → Type 0 where
@@ -99,7 +99,7 @@ module _ (k : ℕ) (few : k ≤ 1000000) where
   change_fits : (r : ℕ) → Fitting (change k r)
   change_fits r = either_fits _ _ _ delete_fits (add_fits r)
 
-question_fits : Fitting question
+question_fits : Fitting final_query
 question_fits = small _ _ (omega arith) (and (omega arith) (and (omega arith) (and (omega arith) (and (omega arith) (and (omega arith) none)))))
 
 -- ---- the whole
@@ -125,10 +125,10 @@ set_up_fits =
     All-append Fitting (raws ++ avgs ++ maxs ++ to_avgs) to_maxs fit (units_fit (create_rule (codes "max")) (rule_fits (codes "max") (omega arith)))
 
 changes_fit : (seed n : ℕ) → n ≤ 1000000 → All Fitting (changes seed n)
-changes_fit seed n few = All-map Fitting (λ k. change k (drawn seed k / 2 ^ 33)) (range_with_len 1 n) (λ i d within.
+changes_fit seed n few = All-map Fitting (λ k. change k (generator_state seed k / 2 ^ 33)) (range_with_len 1 n) (λ i d within.
     let index : i < n = omega (arith, length-range_with_len 1 n) in
     let is : _ ≡ 1 + i = get_or-range_with_len 1 n i d index in
     change_fits _ (omega arith) _)
 
 pub workload_fits : (seed n : ℕ) → n ≤ 1000000 → All (Fits usual.wire) (workload seed n)
-workload_fits seed n few = All-append Fitting (set_up ++ changes seed n) (question ∷ []) (All-append Fitting set_up (changes seed n) set_up_fits (changes_fit seed n few)) (All-cons Fitting question [] question_fits (All-nil Fitting))
+workload_fits seed n few = All-append Fitting (set_up ++ changes seed n) (final_query ∷ []) (All-append Fitting set_up (changes seed n) set_up_fits (changes_fit seed n few)) (All-cons Fitting final_query [] question_fits (All-nil Fitting))

@@ -3,14 +3,14 @@ use Rattle.std.proofs.Common.{◌≡◌, ◌/◌, ◌^◌, ◌∷◌, [], length
 use Rattle.std.specs.Fmt.{digits}
 use Rattle.std.specs.Prelude.{codes}
 use Rattle.ts_spec.specs.Encoded.{encoded_request}
-use Rattle.ts_gen.specs.Workload.{change, drawn, script, set_up, workload}
+use Rattle.ts_gen.specs.Workload.{change, generator_state, script, set_up, workload}
 
-first_number : drawn 7 1 ≡ 9098160460397411210
-unfolding drawn
+first_number : generator_state 7 1 ≡ 9098160460397411210
+unfolding generator_state
 first_number = refl
 
-first_bits : drawn 7 1 / 2 ^ 33 ≡ 1059165278
-unfolding drawn
+first_bits : generator_state 7 1 / 2 ^ 33 ≡ 1059165278
+unfolding generator_state
 first_bits = refl
 
 first_change : change 1 1059165278 ≡ codes "TS.ADD" ∷ codes "raw:1" ∷ codes "1000" ∷ codes "961" ∷ codes "ON_DUPLICATE" ∷ codes "LAST" ∷ []

@@ -45,9 +45,9 @@ abbrev pub next : ℕ → ℕ
 next x = (x * 6364136223846793005 + 1442695040888963407) % 2 ^ 64
 
 -- the k-th number drawn from a seed
-unfoldable pub drawn : (seed k : ℕ) → ℕ
-drawn seed zero = seed
-drawn seed (suc k) = next (drawn seed k)
+unfoldable pub generator_state : (seed k : ℕ) → ℕ
+generator_state seed zero = seed
+generator_state seed (suc k) = next (generator_state seed k)
 
 -- the time `back` seconds before second k, in milliseconds, at least 0
 abbrev pub second_before : (back k : ℕ) → ℕ
@@ -77,17 +77,17 @@ change k r = if r % 16 == 1 then delete k else add k r
 
 -- the first n changes, drawn from the high bits of the generator
 abbrev pub changes : (seed n : ℕ) → List Request
-changes seed n = map (λ k. change k (drawn seed k / 2 ^ 33)) (range_with_len 1 n)
+changes seed n = map (λ k. change k (generator_state seed k / 2 ^ 33)) (range_with_len 1 n)
 
 -- ---- the whole
 
 -- a query for all rows of all rule destinations
-abbrev pub question : Request
-question = codes "TS.MRANGE" ∷ codes "-" ∷ codes "+" ∷ codes "FILTER" ∷ codes "kind=(avg,max)" ∷ []
+abbrev pub final_query : Request
+final_query = codes "TS.MRANGE" ∷ codes "-" ∷ codes "+" ∷ codes "FILTER" ∷ codes "kind=(avg,max)" ∷ []
 
 -- the requests of a seed with n changes
 abbrev pub workload : (seed n : ℕ) → List Request
-workload seed n = set_up ++ changes seed n ++ question ∷ []
+workload seed n = set_up ++ changes seed n ++ final_query ∷ []
 
 -- the bytes of these requests
 abbrev pub script : (seed n : ℕ) → List ℕ

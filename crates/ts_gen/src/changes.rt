@@ -6,12 +6,12 @@ ghost use Rattle.ts_gen.specs.Workload as workload;
 ghost use Rattle.ts_gen.specs.Workload.{add, change, delete, next, second_before, value};
 
 use crate::keys::{UNITS, key};
-use crate::words::{put_count, put_number, put_word};
+use crate::words::{write_request_number, write_request_start, write_request_word};
 use itoa::Buffer;
 use std::alloc::AllocError;
 
 // The generator's next number: a step of Knuth's 64-bit linear congruential generator (MMIX).
-pub(crate) fn draw(number: u64) -> u64
+pub(crate) fn next_generator_state(number: u64) -> u64
     ensures { result ≡ next number }
 {
     number
@@ -20,39 +20,39 @@ pub(crate) fn draw(number: u64) -> u64
 }
 
 // Writes the k-th change, which depends on the random bits `r`.
-pub(crate) fn put_change(bytes: &mut Vec<u8>, k: u32, r: u64) -> Result<(), AllocError>
+pub(crate) fn write_change_request(bytes: &mut Vec<u8>, k: u32, r: u64) -> Result<(), AllocError>
     ensures { OnOk result (bytes.new.items ≡ bytes.old.items ++ encoded_request (change k r)) }
 {
     if r % 16 == 1 {
-        put_delete(bytes, k)
+        write_deletion(bytes, k)
     } else {
-        put_add(bytes, k, r)
+        write_addition(bytes, k, r)
     }
 }
 
 // Writes a deletion of five seconds.
-fn put_delete(bytes: &mut Vec<u8>, k: u32) -> Result<(), AllocError>
+fn write_deletion(bytes: &mut Vec<u8>, k: u32) -> Result<(), AllocError>
     ensures { OnOk result (bytes.new.items ≡ bytes.old.items ++ encoded_request (delete k)) }
 {
     let first = second_before(32, k);
-    put_count(bytes, 4)?;
-    put_word(bytes, b"TS.DEL")?;
-    put_word(bytes, &raw(k))?;
-    put_number(bytes, first)?;
-    put_number(bytes, first + 4000)
+    write_request_start(bytes, 4)?;
+    write_request_word(bytes, b"TS.DEL")?;
+    write_request_word(bytes, &raw(k))?;
+    write_request_number(bytes, first)?;
+    write_request_number(bytes, first + 4000)
 }
 
 // Writes a TS.ADD.
-fn put_add(bytes: &mut Vec<u8>, k: u32, r: u64) -> Result<(), AllocError>
+fn write_addition(bytes: &mut Vec<u8>, k: u32, r: u64) -> Result<(), AllocError>
     ensures { OnOk result (bytes.new.items ≡ bytes.old.items ++ encoded_request (add k r)) }
 {
-    put_count(bytes, 6)?;
-    put_word(bytes, b"TS.ADD")?;
-    put_word(bytes, &raw(k))?;
-    put_number(bytes, time(k, r))?;
-    put_value(bytes, r)?;
-    put_word(bytes, b"ON_DUPLICATE")?;
-    put_word(bytes, b"LAST")
+    write_request_start(bytes, 6)?;
+    write_request_word(bytes, b"TS.ADD")?;
+    write_request_word(bytes, &raw(k))?;
+    write_request_number(bytes, time(k, r))?;
+    write_request_value(bytes, r)?;
+    write_request_word(bytes, b"ON_DUPLICATE")?;
+    write_request_word(bytes, b"LAST")
 }
 
 // The key of the k-th change.
@@ -82,9 +82,9 @@ fn second_before(back: u32, k: u32) -> u64
 }
 
 // Writes a value from -1000 to 1000.
-fn put_value(bytes: &mut Vec<u8>, r: u64) -> Result<(), AllocError>
+fn write_request_value(bytes: &mut Vec<u8>, r: u64) -> Result<(), AllocError>
     ensures { OnOk result (bytes.new.items ≡ bytes.old.items ++ encoded_word (value r)) }
 {
     let number = (r % 2001) as i64 - 1000;
-    put_word(bytes, Buffer::new().format(number).as_bytes())
+    write_request_word(bytes, Buffer::new().format(number).as_bytes())
 }

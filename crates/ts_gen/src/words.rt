@@ -9,30 +9,30 @@ use itoa::Buffer;
 use std::alloc::AllocError;
 
 // Writes the header of a request with this many arguments.
-pub(crate) fn put_count(bytes: &mut Vec<u8>, words: usize) -> Result<(), AllocError>
+pub(crate) fn write_request_start(bytes: &mut Vec<u8>, words: usize) -> Result<(), AllocError>
     ensures { OnOk result (bytes.new.items ≡ bytes.old.items ++ (STAR ∷ decimal words ++ CRLF)) }
 {
-    put_header(bytes, b'*', words)
+    write_length_line(bytes, b'*', words)
 }
 
 // Writes an argument.
-pub(crate) fn put_word(bytes: &mut Vec<u8>, word: &[u8]) -> Result<(), AllocError>
+pub(crate) fn write_request_word(bytes: &mut Vec<u8>, word: &[u8]) -> Result<(), AllocError>
     ensures { OnOk result (bytes.new.items ≡ bytes.old.items ++ encoded_word word.now) }
 {
-    put_header(bytes, b'$', word.len())?;
+    write_length_line(bytes, b'$', word.len())?;
     bytes.extend_from_slice(word)?;
     bytes.extend_from_slice(b"\r\n")
 }
 
 // Writes a number in decimal as an argument.
-pub(crate) fn put_number(bytes: &mut Vec<u8>, number: u64) -> Result<(), AllocError>
+pub(crate) fn write_request_number(bytes: &mut Vec<u8>, number: u64) -> Result<(), AllocError>
     ensures { OnOk result (bytes.new.items ≡ bytes.old.items ++ encoded_word (decimal number)) }
 {
-    put_word(bytes, Buffer::new().format(number).as_bytes())
+    write_request_word(bytes, Buffer::new().format(number).as_bytes())
 }
 
 // Writes a line of a type byte and a number.
-fn put_header(bytes: &mut Vec<u8>, first: u8, number: usize) -> Result<(), AllocError>
+fn write_length_line(bytes: &mut Vec<u8>, first: u8, number: usize) -> Result<(), AllocError>
     ensures { OnOk result (bytes.new.items ≡ bytes.old.items ++ (first ∷ decimal number ++ CRLF)) }
 {
     bytes.push(first)?;

@@ -52,23 +52,23 @@ groups-added label v es new old now ms m has is found adds made =
 -- ---- their replies
 
 -- the reply of the group of a value
-abbrev pub told : GroupBy → Show → Option ℕ → Bool → List Labelled → List ℕ → Reply
-told by show count back all value = member_reply (group by show count back value (having by.label value all))
+abbrev pub reply_parts : GroupBy → Show → Option ℕ → Bool → List Labelled → List ℕ → Reply
+reply_parts by show count back all value = member_reply (group by show count back value (having by.label value all))
 
 -- these groups are left, after the replies of the others
 pub record AreLeft (by : GroupBy) (show : Show) (count : Option ℕ) (back : Bool) (all : List Labelled) (es : Groups) (shown : List Reply) : Type 0 where
   pub left : List (List ℕ)
   pub entries : es ≡ map (λ value. (value, grouped (having by.label value all))) left
-  pub so_far : shown ++ map (told by show count back all) left ≡ map (told by show count back all) (values by.label all)
+  pub so_far : shown ++ map (reply_parts by show count back all) left ≡ map (reply_parts by show count back all) (values by.label all)
 
 module _ (by : GroupBy) (show : Show) (count : Option ℕ) (back : Bool) (all : List Labelled) where
   pub left-first : (es : Groups) (shown : List Reply) → es ≡ by_values by.label all → shown ≡ [] → AreLeft by show count back all es shown
   left-first es shown is none =
-      record { left = values by.label all; entries = is; so_far = ap (λ (l : List Reply). l ++ map (told by show count back all) (values by.label all)) none }
+      record { left = values by.label all; entries = is; so_far = ap (λ (l : List Reply). l ++ map (reply_parts by show count back all) (values by.label all)) none }
 
   next-of : (es rest : Groups) (e : List ℕ × Group) (shown : List Reply) (reply : Reply) (left : List (List ℕ)) → es ≡ e ∷ rest
       → es ≡ map (λ value. (value, grouped (having by.label value all))) left
-      → shown ++ map (told by show count back all) left ≡ map (told by show count back all) (values by.label all)
+      → shown ++ map (reply_parts by show count back all) left ≡ map (reply_parts by show count back all) (values by.label all)
       → ((ms : List Labelled) → e.1 ≡ grouped ms → reply ≡ member_reply (group by show count back e.0 ms))
       → AreLeft by show count back all rest (shown ++ reply ∷ [])
   next-of es rest e shown reply [] is entries so_far tells = cc
@@ -76,14 +76,14 @@ module _ (by : GroupBy) (show : Show) (count : Option ℕ) (back : Bool) (all : 
       let both : e ∷ rest ≡ (v, grouped (having by.label v all)) ∷ map (λ value. (value, grouped (having by.label value all))) vs = sym is ∙ entries in
       let one : e ≡ (v, grouped (having by.label v all)) = cc in
       let others : rest ≡ map (λ value. (value, grouped (having by.label value all))) vs = cc in
-      let is_reply : reply ≡ told by show count back all v =
+      let is_reply : reply ≡ reply_parts by show count back all v =
       tells (having by.label v all) (ap (λ (d : List ℕ × Group). d.1) one)
       ∙ ap (λ (d : List ℕ × Group). member_reply (group by show count back d.0 (having by.label v all))) one in
       record {
         left = vs;
         entries = others;
-        so_far = append_assoc shown (reply ∷ []) (map (told by show count back all) vs)
-            ∙ ap (λ (r : Reply). shown ++ r ∷ map (told by show count back all) vs) is_reply ∙ so_far;
+        so_far = append_assoc shown (reply ∷ []) (map (reply_parts by show count back all) vs)
+            ∙ ap (λ (r : Reply). shown ++ r ∷ map (reply_parts by show count back all) vs) is_reply ∙ so_far;
       }
 
   pub left-next : (es rest : Groups) (e : List ℕ × Group) (shown now : List Reply) (reply : Reply) → AreLeft by show count back all es shown → es ≡ e ∷ rest
@@ -92,9 +92,9 @@ module _ (by : GroupBy) (show : Show) (count : Option ℕ) (back : Bool) (all : 
   left-next es rest e shown now reply before is tells more =
       subst (AreLeft by show count back all rest) (sym more) (next-of es rest e shown reply before.left is before.entries before.so_far tells)
 
-  pub told-each : (vs : List (List ℕ)) → map (told by show count back all) vs ≡ map member_reply (map (λ value. group by show count back value (having by.label value all)) vs)
-  told-each [] = refl
-  told-each (v ∷ vs) = ap (λ (l : List Reply). told by show count back all v ∷ l) (told-each vs)
+  pub reply_parts-each : (vs : List (List ℕ)) → map (reply_parts by show count back all) vs ≡ map member_reply (map (λ value. group by show count back value (having by.label value all)) vs)
+  reply_parts-each [] = refl
+  reply_parts-each (v ∷ vs) = ap (λ (l : List Reply). reply_parts by show count back all v ∷ l) (reply_parts-each vs)
 
   pub none-left : (vs : List (List ℕ)) → [] ≡ map {B = List ℕ × Group} (λ value. (value, grouped (having by.label value all))) vs → vs ≡ []
   none-left [] e = refl
@@ -103,5 +103,5 @@ module _ (by : GroupBy) (show : Show) (count : Option ℕ) (back : Bool) (all : 
   -- where none is left, these are the replies of all
   pub left-none : (es : Groups) (shown : List Reply) → AreLeft by show count back all es shown → es ≡ [] → shown ≡ map member_reply (groups by show count back all)
   left-none es shown before none =
-      sym (append-nil shown) ∙ ap (λ (vs : List (List ℕ)). shown ++ map (told by show count back all) vs) (sym (none-left before.left (sym none ∙ before.entries)))
-      ∙ before.so_far ∙ told-each (values by.label all)
+      sym (append-nil shown) ∙ ap (λ (vs : List (List ℕ)). shown ++ map (reply_parts by show count back all) vs) (sym (none-left before.left (sym none ∙ before.entries)))
+      ∙ before.so_far ∙ reply_parts-each (values by.label all)

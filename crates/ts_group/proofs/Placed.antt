@@ -19,7 +19,7 @@ use Rattle.ts_spec.specs.Answer.{Row}
 use Rattle.ts_spec.specs.Groups.{times, number_then}
 use Rattle.ts_spec.specs.Aggregate.{Summary, summary}
 use Rattle.ts_group.specs.Summaries.{Summaries, summaries, summary_at, AreTimely}
-use Rattle.ts_group.specs.Places.{slot_at, summaries_in, IsPlaced, ArePlaced, AreWithin}
+use Rattle.ts_group.specs.SlotIndices.{slot_at, summaries_in, IsSlotEntry, AreSlotEntries, AreWithin}
 use Rattle.ts_group.specs.declared.slots.Slot.{Slot}
 use Rattle.ts_group.proofs.Ordered.{AreAfter, AreRising, at-same, apart}
 use Rattle.ts_group.proofs.Times.{in_time, rising-times}
@@ -50,32 +50,32 @@ found-in slots t es = lookup-map_values (λ (p : ℕ). (slot_at slots p).running
 -- the others are the same
 module _ (old new : List Slot) (p : ℕ) (others : (q : ℕ) → (q == p) ≡ false → slot_at new q ≡ slot_at old q) where
   -- those that are past a time which is that of the place
-  same-past : (t : ℕ) (es : List (ℕ × ℕ)) → (slot_at old p).time ≡ t → AreAfter in_time t (keys_of es) → All (IsPlaced old) es → summaries_in new es ≡ summaries_in old es
+  same-past : (t : ℕ) (es : List (ℕ × ℕ)) → (slot_at old p).time ≡ t → AreAfter in_time t (keys_of es) → All (IsSlotEntry old) es → summaries_in new es ≡ summaries_in old es
   same-past t [] is after placed = refl
   same-past t (e ∷ es) is after placed =
-      let first : IsPlaced old e = All-head (IsPlaced old) e es placed in
+      let first : IsSlotEntry old e = All-head (IsSlotEntry old) e es placed in
       let other : (e.1 == p) ≡ false = ne_eqb e.1 p (λ one.
       let here : t ≡ e.0 = sym is ∙ ap (λ (q : ℕ). (slot_at old q).time) (sym one) ∙ first.time in
       absurd (false≢true (sym (apart in_time t e.0 after.0) ∙ eq-eqb t e.0 here))) in
       ap (λ (s : Slot). (e.0, s.running) ∷ summaries_in new es) (others e.1 other)
-      ∙ ap (λ (l : Summaries). (e.0, (slot_at old e.1).running) ∷ l) (same-past t es is after.1 (All-tail (IsPlaced old) e es placed))
+      ∙ ap (λ (l : Summaries). (e.0, (slot_at old e.1).running) ∷ l) (same-past t es is after.1 (All-tail (IsSlotEntry old) e es placed))
 
-  pub placed-counted : (t : ℕ) (es : List (ℕ × ℕ)) → AreRising in_time (keys_of es) → All (IsPlaced old) es → lookup (is_at (nat_cmp t)) es ≡ Some p → (slot_at old p).time ≡ t
+  pub placed-counted : (t : ℕ) (es : List (ℕ × ℕ)) → AreRising in_time (keys_of es) → All (IsSlotEntry old) es → lookup (is_at (nat_cmp t)) es ≡ Some p → (slot_at old p).time ≡ t
       → summaries_in new es ≡ set_value (is_at (nat_cmp t)) (summaries_in old es) (slot_at new p).running
   placed-counted t [] rising placed found is = cc
   placed-counted t (e ∷ es) rising placed found is =
-      let first : IsPlaced old e = All-head (IsPlaced old) e es placed in
-      let others_placed : All (IsPlaced old) es = All-tail (IsPlaced old) e es placed in
+      let first : IsSlotEntry old e = All-head (IsSlotEntry old) e es placed in
+      let others_placed : All (IsSlotEntry old) es = All-tail (IsSlotEntry old) e es placed in
       rw (at-same in_time t e.0) (by first others_placed (t == e.0) refl
       (subst (λ (b : Bool). cond b (Some e.1) (lookup (is_at (nat_cmp t)) es) ≡ Some p) (at-same in_time t e.0) found)
       (λ at. placed-counted t es rising.1 others_placed at is))
     where
-      by : IsPlaced old e → All (IsPlaced old) es → (b : Bool) → (t == e.0) ≡ b → cond b (Some e.1) (lookup (is_at (nat_cmp t)) es) ≡ Some p
+      by : IsSlotEntry old e → All (IsSlotEntry old) es → (b : Bool) → (t == e.0) ≡ b → cond b (Some e.1) (lookup (is_at (nat_cmp t)) es) ≡ Some p
           → (lookup (is_at (nat_cmp t)) es ≡ Some p → summaries_in new es ≡ set_value (is_at (nat_cmp t)) (summaries_in old es) (slot_at new p).running)
           → summaries_in new (e ∷ es) ≡ cond b ((e.0, (slot_at new p).running) ∷ summaries_in old es) ((e.0, (slot_at old e.1).running) ∷ set_value (is_at (nat_cmp t)) (summaries_in old es) (slot_at new p).running)
       by first rest true d at ih =
-          let place : e.1 ≡ p = cc in
-          ap (λ (q : ℕ). (e.0, (slot_at new q).running) ∷ summaries_in new es) place
+          let list_index : e.1 ≡ p = cc in
+          ap (λ (q : ℕ). (e.0, (slot_at new q).running) ∷ summaries_in new es) list_index
           ∙ ap (λ (l : Summaries). (e.0, (slot_at new p).running) ∷ l) (same-past e.0 es (is ∙ eqb-true t e.0 d) rising.0 rest)
       by first rest false d at ih =
           let other : (e.1 == p) ≡ false = ne_eqb e.1 p (λ one.
@@ -91,11 +91,11 @@ module _ (old new : List Slot) (p : ℕ) (others : (q : ℕ) → (q == p) ≡ fa
         by true d = subst (λ (k : ℕ). (slot_at new k).time ≡ (slot_at old k).time) (sym (eqb-true q p d)) time
         by false d = ap (λ (s : Slot). s.time) (others q d)
 
-    times-stay : (es : List (ℕ × ℕ)) → All (IsPlaced old) es → All (IsPlaced new) es
+    times-stay : (es : List (ℕ × ℕ)) → All (IsSlotEntry old) es → All (IsSlotEntry new) es
     times-stay es placed =
-        All-weaker (IsPlaced old) (IsPlaced new) (λ e. λ h. record { within = subst (λ (n : ℕ). e.1 < n) (sym size) h.within; time = time-stays e.1 ∙ h.time }) es placed
+        All-weaker (IsSlotEntry old) (IsSlotEntry new) (λ e. λ h. record { within = subst (λ (n : ℕ). e.1 < n) (sym size) h.within; time = time-stays e.1 ∙ h.time }) es placed
 
-    pub placed-stays : (es : List (ℕ × ℕ)) → ArePlaced old es → ArePlaced new es
+    pub placed-stays : (es : List (ℕ × ℕ)) → AreSlotEntries old es → AreSlotEntries new es
     placed-stays es placed = record {
       times = times-stay es placed.times;
       each = λ q. λ inside.
@@ -103,23 +103,23 @@ module _ (old new : List Slot) (p : ℕ) (others : (q : ℕ) → (q == p) ≡ fa
     }
 
 -- what is found at the place of a time is of that time
-pub time-found : (slots : List Slot) (t p : ℕ) (es : List (ℕ × ℕ)) → All (IsPlaced slots) es → lookup (is_at (nat_cmp t)) es ≡ Some p → (p < length slots) × ((slot_at slots p).time ≡ t)
+pub time-found : (slots : List Slot) (t p : ℕ) (es : List (ℕ × ℕ)) → All (IsSlotEntry slots) es → lookup (is_at (nat_cmp t)) es ≡ Some p → (p < length slots) × ((slot_at slots p).time ≡ t)
 time-found slots t p [] placed found = cc
 time-found slots t p (e ∷ es) placed found =
-    by (All-head (IsPlaced slots) e es placed) (t == e.0) refl
+    by (All-head (IsSlotEntry slots) e es placed) (t == e.0) refl
     (subst (λ (b : Bool). cond b (Some e.1) (lookup (is_at (nat_cmp t)) es) ≡ Some p) (at-same in_time t e.0) found)
-    (λ at. time-found slots t p es (All-tail (IsPlaced slots) e es placed) at)
+    (λ at. time-found slots t p es (All-tail (IsSlotEntry slots) e es placed) at)
   where
-    by : IsPlaced slots e → (b : Bool) → (t == e.0) ≡ b → cond b (Some e.1) (lookup (is_at (nat_cmp t)) es) ≡ Some p
+    by : IsSlotEntry slots e → (b : Bool) → (t == e.0) ≡ b → cond b (Some e.1) (lookup (is_at (nat_cmp t)) es) ≡ Some p
         → (lookup (is_at (nat_cmp t)) es ≡ Some p → (p < length slots) × ((slot_at slots p).time ≡ t)) → (p < length slots) × ((slot_at slots p).time ≡ t)
     by first true d at ih =
-        let place : e.1 ≡ p = cc in
-        subst (λ (q : ℕ). (q < length slots) × ((slot_at slots q).time ≡ t)) place (first.within, first.time ∙ sym (eqb-true t e.0 d))
+        let list_index : e.1 ≡ p = cc in
+        subst (λ (q : ℕ). (q < length slots) × ((slot_at slots q).time ≡ t)) list_index (first.within, first.time ∙ sym (eqb-true t e.0 d))
     by first false d at ih = ih at
 
 -- the row is counted
 pub row-counted : (old new : List Slot) (p : ℕ) (es : List (ℕ × ℕ)) (rows : List Row) (r : Row)
-    → ArePlaced old es → lookup (is_at (nat_cmp r.time)) es ≡ Some p
+    → AreSlotEntries old es → lookup (is_at (nat_cmp r.time)) es ≡ Some p
     → ((q : ℕ) → (q == p) ≡ false → slot_at new q ≡ slot_at old q)
     → ((ps : List Point) → (slot_at old p).running ≡ summary ps → (slot_at new p).running ≡ summary (ps ++ number_then r.time r.value []))
     → summaries_in old es ≡ summaries rows → summaries_in new es ≡ summaries (rows ++ r ∷ [])
@@ -137,14 +137,14 @@ module _ (old : List Slot) (x : Slot) (p : ℕ) (inside : p < length old) where
   set-others : (q : ℕ) → (q == p) ≡ false → slot_at (set old p x) q ≡ slot_at old q
   set-others q d = get_or-set_other old p q x (record { time = 0; running = summary [] }) (eqb-false q p d)
 
-pub placed-set : (old : List Slot) (x : Slot) (p t : ℕ) (es : List (ℕ × ℕ)) → ArePlaced old es → lookup (is_at (nat_cmp t)) es ≡ Some p → x.time ≡ (slot_at old p).time
-    → ArePlaced (set old p x) es
+pub placed-set : (old : List Slot) (x : Slot) (p t : ℕ) (es : List (ℕ × ℕ)) → AreSlotEntries old es → lookup (is_at (nat_cmp t)) es ≡ Some p → x.time ≡ (slot_at old p).time
+    → AreSlotEntries (set old p x) es
 placed-set old x p t es placed found time =
     let inside : p < length old = (time-found old t p es placed.times found).0 in
     placed-stays old (set old p x) p (set-others old x p inside) (length-set old p x) (ap (λ (s : Slot). s.time) (set-here old x p inside) ∙ time) es placed
 
 pub row-set : (old : List Slot) (x : Slot) (p : ℕ) (es : List (ℕ × ℕ)) (rows : List Row) (r : Row)
-    → ArePlaced old es → lookup (is_at (nat_cmp r.time)) es ≡ Some p
+    → AreSlotEntries old es → lookup (is_at (nat_cmp r.time)) es ≡ Some p
     → ((ps : List Point) → (slot_at old p).running ≡ summary ps → x.running ≡ summary (ps ++ number_then r.time r.value []))
     → summaries_in old es ≡ summaries rows → summaries_in (set old p x) es ≡ summaries (rows ++ r ∷ [])
 row-set old x p es rows r placed found counts is =
@@ -185,39 +185,39 @@ module _ (old : List Slot) (x : Slot) where
   one-longer : length (old ++ x ∷ []) ≡ length old + 1
   one-longer = length-append old (x ∷ [])
 
-  same-others : (es : List (ℕ × ℕ)) → All (IsPlaced old) es → summaries_in (old ++ x ∷ []) es ≡ summaries_in old es
+  same-others : (es : List (ℕ × ℕ)) → All (IsSlotEntry old) es → summaries_in (old ++ x ∷ []) es ≡ summaries_in old es
   same-others [] placed = refl
   same-others (e ∷ es) placed =
-      ap (λ (s : Slot). (e.0, s.running) ∷ summaries_in (old ++ x ∷ []) es) (slot-old e.1 (All-head (IsPlaced old) e es placed).within)
-      ∙ ap (λ (l : Summaries). (e.0, (slot_at old e.1).running) ∷ l) (same-others es (All-tail (IsPlaced old) e es placed))
+      ap (λ (s : Slot). (e.0, s.running) ∷ summaries_in (old ++ x ∷ []) es) (slot-old e.1 (All-head (IsSlotEntry old) e es placed).within)
+      ∙ ap (λ (l : Summaries). (e.0, (slot_at old e.1).running) ∷ l) (same-others es (All-tail (IsSlotEntry old) e es placed))
 
-  placed-still : (e : ℕ × ℕ) → IsPlaced old e → IsPlaced (old ++ x ∷ []) e
+  placed-still : (e : ℕ × ℕ) → IsSlotEntry old e → IsSlotEntry (old ++ x ∷ []) e
   placed-still e placed = record {
     within = subst (λ (n : ℕ). e.1 < n) (sym one-longer) (omega (arith, placed.within));
     time = ap (λ (s : Slot). s.time) (slot-old e.1 placed.within) ∙ placed.time;
   }
 
-  placed-new : IsPlaced (old ++ x ∷ []) (x.time, length old)
+  placed-new : IsSlotEntry (old ++ x ∷ []) (x.time, length old)
   placed-new = record {
     within = subst (λ (n : ℕ). length old < n) (sym one-longer) (omega arith);
     time = ap (λ (s : Slot). s.time) slot-new;
   }
 
-  all-still : (es : List (ℕ × ℕ)) → All (IsPlaced old) es → All (IsPlaced (old ++ x ∷ [])) es
-  all-still es placed = All-weaker (IsPlaced old) (IsPlaced (old ++ x ∷ [])) placed-still es placed
+  all-still : (es : List (ℕ × ℕ)) → All (IsSlotEntry old) es → All (IsSlotEntry (old ++ x ∷ [])) es
+  all-still es placed = All-weaker (IsSlotEntry old) (IsSlotEntry (old ++ x ∷ [])) placed-still es placed
 
-  all-inserted : (es : List (ℕ × ℕ)) → All (IsPlaced old) es → lookup (is_at (nat_cmp x.time)) es ≡ None
-      → All (IsPlaced (old ++ x ∷ [])) (insert_entry nat_cmp es x.time (length old))
-  all-inserted [] placed none = All-cons (IsPlaced (old ++ x ∷ [])) (x.time, length old) [] placed-new (All-nil (IsPlaced (old ++ x ∷ [])))
+  all-inserted : (es : List (ℕ × ℕ)) → All (IsSlotEntry old) es → lookup (is_at (nat_cmp x.time)) es ≡ None
+      → All (IsSlotEntry (old ++ x ∷ [])) (insert_entry nat_cmp es x.time (length old))
+  all-inserted [] placed none = All-cons (IsSlotEntry (old ++ x ∷ [])) (x.time, length old) [] placed-new (All-nil (IsSlotEntry (old ++ x ∷ [])))
   all-inserted (e ∷ es) placed none =
-      by (nat_cmp x.time e.0) none (All-head (IsPlaced old) e es placed) (all-inserted es (All-tail (IsPlaced old) e es placed))
+      by (nat_cmp x.time e.0) none (All-head (IsSlotEntry old) e es placed) (all-inserted es (All-tail (IsSlotEntry old) e es placed))
     where
-      by : (o : Ordering) → cond (is_at (λ (k : ℕ). o) e.0) (Some e.1) (lookup (is_at (nat_cmp x.time)) es) ≡ None → IsPlaced old e
-          → (lookup (is_at (nat_cmp x.time)) es ≡ None → All (IsPlaced (old ++ x ∷ [])) (insert_entry nat_cmp es x.time (length old)))
-          → All (IsPlaced (old ++ x ∷ [])) (match_ordering o ((x.time, length old) ∷ e ∷ es) ((e.0, length old) ∷ es) (e ∷ insert_entry nat_cmp es x.time (length old)))
-      by Less n first ih = All-cons (IsPlaced (old ++ x ∷ [])) (x.time, length old) (e ∷ es) placed-new (all-still (e ∷ es) placed)
+      by : (o : Ordering) → cond (is_at (λ (k : ℕ). o) e.0) (Some e.1) (lookup (is_at (nat_cmp x.time)) es) ≡ None → IsSlotEntry old e
+          → (lookup (is_at (nat_cmp x.time)) es ≡ None → All (IsSlotEntry (old ++ x ∷ [])) (insert_entry nat_cmp es x.time (length old)))
+          → All (IsSlotEntry (old ++ x ∷ [])) (match_ordering o ((x.time, length old) ∷ e ∷ es) ((e.0, length old) ∷ es) (e ∷ insert_entry nat_cmp es x.time (length old)))
+      by Less n first ih = All-cons (IsSlotEntry (old ++ x ∷ [])) (x.time, length old) (e ∷ es) placed-new (all-still (e ∷ es) placed)
       by Equal n first ih = cc
-      by Greater n first ih = All-cons (IsPlaced (old ++ x ∷ [])) e (insert_entry nat_cmp es x.time (length old)) (placed-still e first) (ih n)
+      by Greater n first ih = All-cons (IsSlotEntry (old ++ x ∷ [])) e (insert_entry nat_cmp es x.time (length old)) (placed-still e first) (ih n)
 
 -- a search for a time among them
 lookup-inserted : (u t p : ℕ) (es : List (ℕ × ℕ)) → lookup (is_at (nat_cmp t)) es ≡ None
@@ -242,8 +242,8 @@ lookup-inserted u t p (e ∷ es) none = by (nat_cmp t e.0) refl none (lookup-ins
         let apart_now : is_at (nat_cmp t) e.0 ≡ false = ap (λ (o : Ordering). is_at (λ (k : ℕ). o) e.0) d in
         ap (λ (k : ℕ). is_at (nat_cmp k) e.0) (eqb-true u t one) ∙ apart_now)
 
-pub placed-inserted : (old : List Slot) (x : Slot) (es : List (ℕ × ℕ)) → ArePlaced old es → lookup (is_at (nat_cmp x.time)) es ≡ None
-    → ArePlaced (old ++ x ∷ []) (insert_entry nat_cmp es x.time (length old))
+pub placed-inserted : (old : List Slot) (x : Slot) (es : List (ℕ × ℕ)) → AreSlotEntries old es → lookup (is_at (nat_cmp x.time)) es ≡ None
+    → AreSlotEntries (old ++ x ∷ []) (insert_entry nat_cmp es x.time (length old))
 placed-inserted old x es placed none = record {
   times = all-inserted old x es placed.times none;
   each = λ q. λ inside. by q (nat_lt q (length old)) refl inside;
@@ -270,7 +270,7 @@ placed-inserted old x es placed none = record {
 
 -- the row is the first of its time
 pub row-inserted : (old : List Slot) (x : Slot) (es : List (ℕ × ℕ)) (rows : List Row) (r : Row)
-    → ArePlaced old es → lookup (is_at (nat_cmp r.time)) es ≡ None → x.time ≡ r.time → x.running ≡ summary (number_then r.time r.value [])
+    → AreSlotEntries old es → lookup (is_at (nat_cmp r.time)) es ≡ None → x.time ≡ r.time → x.running ≡ summary (number_then r.time r.value [])
     → summaries_in old es ≡ summaries rows → summaries_in (old ++ x ∷ []) (insert_entry nat_cmp es x.time (length old)) ≡ summaries (rows ++ r ∷ [])
 row-inserted old x es rows r placed none time counted is =
     summaries-inserted (summaries_in old es) (summaries_in (old ++ x ∷ []) (insert_entry nat_cmp es x.time (length old))) x.running rows r is

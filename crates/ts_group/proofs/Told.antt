@@ -6,30 +6,30 @@ use Rattle.std.specs.Map.{keys_of}
 use Rattle.ts_spec.specs.declared.bucket.Reducer.{Reducer}
 use Rattle.ts_spec.specs.Sample.{Point, MAX_TIME}
 use Rattle.ts_spec.specs.Aggregate.{Summary, summary}
-use Rattle.ts_spec.specs.Answer.{Cell, Row, turned, first_ones}
+use Rattle.ts_spec.specs.Answer.{Cell, Row, in_requested_order, limit_rows}
 use Rattle.ts_spec.specs.Groups.{times, numbers_at, reduced, reduced_row}
 use Rattle.ts_spec.proofs.Aggregates.{summary-count}
-use Rattle.ts_group.specs.Summaries.{Summaries, AreTimely, Kept, HasTaken, summary_at}
-use Rattle.ts_group.specs.Rows.{cell_told, row_told, rows_told, group_rows}
+use Rattle.ts_group.specs.Summaries.{Summaries, AreTimely, ReductionState, HasAccepted, summary_at}
+use Rattle.ts_group.specs.Rows.{cell_of_summary, row_of_summary, rows_of_summaries, group_rows}
 
-told-reduced : (reducer : Reducer) (ps : List Point) → cell_told reducer (summary ps) ≡ reduced reducer ps
-told-reduced reducer [] = refl
-told-reduced reducer (p ∷ ps) =
+reply_parts-reduced : (reducer : Reducer) (ps : List Point) → cell_of_summary reducer (summary ps) ≡ reduced reducer ps
+reply_parts-reduced reducer [] = refl
+reply_parts-reduced reducer (p ∷ ps) =
     let some : ((summary (p ∷ ps)).count == 0) ≡ false = ne_eqb (summary (p ∷ ps)).count 0 (λ e. absurd (omega (arith, summary-count (p ∷ ps), e))) in
     rw some refl
 
-told-times : (reducer : Reducer) (rows : List Row) (ts : List ℕ) → map (row_told reducer) (map (summary_at rows) ts) ≡ map (reduced_row reducer rows) ts
-told-times reducer rows [] = refl
-told-times reducer rows (t ∷ ts) =
-    ap (λ (c : Cell). record { time = t; value = c } ∷ map (row_told reducer) (map (summary_at rows) ts)) (told-reduced reducer (numbers_at t rows))
-    ∙ ap (λ (l : List Row). reduced_row reducer rows t ∷ l) (told-times reducer rows ts)
+reply_parts-times : (reducer : Reducer) (rows : List Row) (ts : List ℕ) → map (row_of_summary reducer) (map (summary_at rows) ts) ≡ map (reduced_row reducer rows) ts
+reply_parts-times reducer rows [] = refl
+reply_parts-times reducer rows (t ∷ ts) =
+    ap (λ (c : Cell). record { time = t; value = c } ∷ map (row_of_summary reducer) (map (summary_at rows) ts)) (reply_parts-reduced reducer (numbers_at t rows))
+    ∙ ap (λ (l : List Row). reduced_row reducer rows t ∷ l) (reply_parts-times reducer rows ts)
 
 -- the rows of a group
-pub told-rows : (k : Kept) (reducer : Reducer) (count : Option ℕ) (back : Bool) (told : List Row) (rows : List Row)
-    → told ≡ first_ones count (rows_told reducer back k.summaries) → HasTaken k rows → k.lost ≡ false → told ≡ group_rows reducer count back rows
-told-rows k reducer count back told rows is taken kept_all =
-    is ∙ ap (λ (es : Summaries). first_ones count (rows_told reducer back es)) (taken kept_all)
-    ∙ ap (λ (l : List Row). first_ones count (turned back l)) (told-times reducer rows (times rows))
+pub reply_parts-rows : (k : ReductionState) (reducer : Reducer) (count : Option ℕ) (back : Bool) (reply_parts : List Row) (rows : List Row)
+    → reply_parts ≡ limit_rows count (rows_of_summaries reducer back k.summaries) → HasAccepted k rows → k.lost ≡ false → reply_parts ≡ group_rows reducer count back rows
+reply_parts-rows k reducer count back reply_parts rows is taken kept_all =
+    is ∙ ap (λ (es : Summaries). limit_rows count (rows_of_summaries reducer back es)) (taken kept_all)
+    ∙ ap (λ (l : List Row). limit_rows count (in_requested_order back l)) (reply_parts-times reducer rows (times rows))
 
 -- ---- the times that are left
 

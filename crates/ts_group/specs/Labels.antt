@@ -3,7 +3,7 @@ use Rattle.std.specs.Prelude.{ℕ, List, [], ◌∷◌, ◌++◌, codes}
 use Rattle.ts_spec.specs.Aggregate.{aggregator_of}
 use Rattle.ts_spec.specs.State.{Label}
 use Rattle.ts_spec.specs.Answer.{Row}
-use Rattle.ts_spec.specs.Questions.{labels_shown}
+use Rattle.ts_spec.specs.Queries.{labels_shown}
 use Rattle.ts_spec.specs.Replies.{aggregator_name}
 use Rattle.ts_spec.specs.Response as spec
 use Rattle.ts_labels.specs.declared.labels.Show.{Show}

@@ -1,6 +1,6 @@
 pub mod Grouped
 pub mod Labels
-pub mod Places
+pub mod SlotIndices
 pub mod Rows
 pub mod Sorted
 pub mod Sources

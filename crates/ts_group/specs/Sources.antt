@@ -14,10 +14,10 @@ are_some [] = false
 are_some (k ∷ ks) = true
 
 -- whether there is a key so far, and the text of the keys
-pub record Joined : Type 0 where
+pub record SourcesText : Type 0 where
   pub some : Bool
   pub text : List ℕ
 
 -- the same, for these keys
-abbrev pub joining : List Key → Joined
-joining ks = record { some = are_some ks; text = joined ks }
+abbrev pub sources_text : List Key → SourcesText
+sources_text ks = record { some = are_some ks; text = joined ks }

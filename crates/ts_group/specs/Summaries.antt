@@ -23,10 +23,10 @@ abbrev pub AreTimely : Summaries → Type 0
 AreTimely es = All (λ t. t ≤ MAX_TIME) (keys_of es)
 
 -- the state of a reduction: the aggregates, and whether memory ran out for a row
-pub record Kept : Type 0 where
+pub record ReductionState : Type 0 where
   pub summaries : Summaries
   pub lost : Bool
 
 -- the state has these rows, unless memory ran out
-abbrev pub HasTaken : Kept → List Row → Type 0
-HasTaken k rows = k.lost ≡ false → k.summaries ≡ summaries rows
+abbrev pub HasAccepted : ReductionState → List Row → Type 0
+HasAccepted k rows = k.lost ≡ false → k.summaries ≡ summaries rows

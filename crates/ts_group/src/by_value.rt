@@ -52,7 +52,8 @@ fn add_to(
     member: &Member,
 ) -> Result<(), AllocError>
     ensures { OnOk result ((label : List ℕ) (ms : List Labelled) → value_of label member.now.labels ≡ Some value.now
-        → groups.old.entries ≡ by_values label ms → groups.new.entries ≡ by_values label (ms ++ labelled_of member.now ∷ [])) }
+        → groups.old.entries ≡ by_values label ms
+        → groups.new.entries ≡ by_values label (ms ++ labelled_of member.now ∷ [])) }
 {
     match groups.get_mut(value) {
         Some(group) => group.add(member),

@@ -33,7 +33,9 @@ pub fn group(
     reverse: bool,
 ) -> Result<Reply, AllocError>
     ensures { IfOk result (λ reply. reply_of reply
-        ≡ replies.array (map replies.member_reply (spec.groups (group_of by.now) (show_of show.now) count reverse (map labelled_of members.now)))) }
+        ≡ replies.array
+        (map replies.member_reply
+        (spec.groups (group_of by.now) (show_of show.now) count reverse (map labelled_of members.now)))) }
 {
     let groups = by_value(alloc, members, &by.label)?;
     let mut shown = Vec::with_capacity(alloc, groups.len())?;
@@ -63,7 +65,7 @@ fn reply_to<'a>(
     ensures { (ms : List Labelled) → group.now ≡ grouped ms → IfOk result (λ reply. reply_of reply
         ≡ replies.member_reply (spec.group (group_of by.now) (show_of show.now) count reverse value.now ms)) }
 {
-    let (labels, rows) = group.told(by, value, count, reverse);
+    let (labels, rows) = group.reply_parts(by, value, count, reverse);
     group_reply(alloc, &labels, show, rows)
 }
 
@@ -78,7 +80,7 @@ fn group_reply<'a>(
         ≡ replies.member_reply (member_with show.now labels.now rows.entry)) }
 {
     let key = group_key(alloc, labels)?;
-    let rows = rows.into_list(alloc)?;
+    let rows = rows.collect_rows(alloc)?;
     let labels = LabelsShown {
         labels: *labels,
         show,
@@ -97,7 +99,8 @@ pub fn encode_groups(
     out: &mut Out,
 ) -> Result<(), AllocError>
     ensures ok { OnOk result (out.new.bytes ≡ out.old.bytes
-        ++ text (replies.array (map replies.member_reply (spec.groups (group_of by.now) (show_of show.now) count reverse (map labelled_of members.now))))) }
+        ++ text (replies.array (map replies.member_reply
+        (spec.groups (group_of by.now) (show_of show.now) count reverse (map labelled_of members.now))))) }
     ensures room { length out.old.bytes + out.old.spare ≤ length out.new.bytes + out.new.spare }
 {
     let reply = group(alloc, members, by, show, count, reverse)?;

@@ -16,10 +16,10 @@ use std::alloc::{AllocError, Global};
 use ts_command::GroupBy;
 use ts_labels::Show;
 use ts_multi::encode_head;
-use ts_resp::{Out, Word, begin_array, put_pair, reserve_items};
+use ts_resp::{Out, Word, begin_array, reserve_items, write_pair};
 
 /// Writes the group of `value`. Grows the output buffer as needed.
-pub fn encode_one<'a>(
+pub fn encode_group_of<'a>(
     alloc: Global,
     group: &'a Group,
     by: &'a GroupBy,
@@ -33,7 +33,7 @@ pub fn encode_one<'a>(
         ++ text (spec.member_reply (groups.group (group_of by.now) (show_of show.now) count reverse value.now ms))) }
     ensures room { length out.old.bytes + out.old.spare ≤ length out.new.bytes + out.new.spare }
 {
-    let (labels, rows) = group.told(by, value, count, reverse);
+    let (labels, rows) = group.reply_parts(by, value, count, reverse);
     encode_group(alloc, &labels, show, rows, out)
 }
 
@@ -46,7 +46,8 @@ pub fn encode_group<'a>(
     rows: GroupRows<'_>,
     out: &mut Out,
 ) -> Result<(), AllocError>
-    ensures ok { OnOk result (out.new.bytes ≡ out.old.bytes ++ text (spec.member_reply (member_with show.now labels.now rows.entry))) }
+    ensures ok { OnOk result (out.new.bytes
+        ≡ out.old.bytes ++ text (spec.member_reply (member_with show.now labels.now rows.entry))) }
     ensures room { length out.old.bytes + out.old.spare ≤ length out.new.bytes + out.new.spare }
 {
     let key = group_key(alloc, labels)?;
@@ -79,7 +80,7 @@ pub fn encode_group_rows(mut rows: GroupRows<'_>, out: &mut Out) -> Result<(), A
     reserve_items(count, out)?;
     begin_array(count, out);
     while let Some(row) = rows.next() {
-        put_pair(row.time, row.value, out);
+        write_pair(row.time, row.value, out);
     }
     Ok(())
 }

@@ -3,7 +3,7 @@ ghost use Rattle.std.specs.Prelude.{◌≡◌, ◌<◌, slice_get, option_map, S
 ghost use Rattle.std.specs.Option.{option_copied};
 ghost use Rattle.ts_spec.specs.Aggregate.{aggregator_of};
 ghost use Rattle.ts_spec.specs.Filter.{value_of};
-ghost use Rattle.ts_spec.specs.Questions.{picked_label};
+ghost use Rattle.ts_spec.specs.Queries.{picked_label};
 ghost use Rattle.ts_spec.specs.Replies.{aggregator_name};
 ghost use Rattle.ts_labels.specs.declared.labels.Show.TheVariants as which;
 ghost use Rattle.ts_multi.specs.Members.{label_of};
@@ -11,7 +11,7 @@ ghost use Rattle.ts_group.specs.Labels.{labels_of, shown_of};
 
 use ts_agg::{Reducer, aggregator_of, name};
 use ts_labels::Show;
-use ts_multi::{Shown, ShowsLabels};
+use ts_multi::{ReplyLabel, ReplyLabelList};
 
 // The names of the labels for the reducer and the source keys.
 const REDUCER: &[u8] = b"__reducer__";
@@ -36,7 +36,7 @@ pub(crate) struct LabelsShown<'a> {
     pub(crate) show: &'a Show,
 }
 
-impl ShowsLabels for LabelsShown<'_> {
+impl ReplyLabelList for LabelsShown<'_> {
     ghost shown = { λ s. shown_of s.show.now s.labels };
 
     fn count(&self) -> usize {
@@ -47,60 +47,60 @@ impl ShowsLabels for LabelsShown<'_> {
         }
     }
 
-    fn label(&self, place: usize) -> Shown<'_> {
+    fn label(&self, list_index: usize) -> ReplyLabel<'_> {
         match self.show {
             Show::Nothing => unreachable!(),
-            Show::All => self.labels.label_at(place),
-            Show::Selected(names) => self.labels.labelled(names[place].bytes()),
+            Show::All => self.labels.label_at(list_index),
+            Show::Selected(names) => self.labels.label_named_by(names[list_index].bytes()),
         }
     }
 }
 
 impl<'a> GroupLabels<'a> {
     // The label at this index: 0 to 2.
-    fn label_at(&self, place: usize) -> Shown<'a>
-        requires { place < 3 }
-        ensures { slice_get (shown_of which.All self.now) place ≡ Some (label_of result) }
+    fn label_at(&self, list_index: usize) -> ReplyLabel<'a>
+        requires { list_index < 3 }
+        ensures { slice_get (shown_of which.All self.now) list_index ≡ Some (label_of result) }
     {
-        Shown {
-            name: self.name_at(place),
-            value: Some(self.value_at(place)),
+        ReplyLabel {
+            name: self.name_at(list_index),
+            value: Some(self.value_at(list_index)),
         }
     }
 
     // Its name.
-    fn name_at(&self, place: usize) -> &'a [u8]
-        requires { place < 3 }
-        ensures { option_map (λ l. l.name) (slice_get (labels_of self.now) place) ≡ Some result.now }
+    fn name_at(&self, list_index: usize) -> &'a [u8]
+        requires { list_index < 3 }
+        ensures { option_map (λ l. l.name) (slice_get (labels_of self.now) list_index) ≡ Some result.now }
     {
-        if place == 0 {
+        if list_index == 0 {
             return self.label;
         }
-        if place == 1 {
+        if list_index == 1 {
             return REDUCER;
         }
         SOURCE
     }
 
     // Its value.
-    fn value_at(&self, place: usize) -> &'a [u8]
-        requires { place < 3 }
-        ensures { option_map (λ l. l.value) (slice_get (labels_of self.now) place) ≡ Some result.now }
+    fn value_at(&self, list_index: usize) -> &'a [u8]
+        requires { list_index < 3 }
+        ensures { option_map (λ l. l.value) (slice_get (labels_of self.now) list_index) ≡ Some result.now }
     {
-        if place == 0 {
+        if list_index == 0 {
             return self.value;
         }
-        if place == 1 {
+        if list_index == 1 {
             return self.reducer_name();
         }
         self.sources
     }
 
     // The label with this name, without a value if it is absent.
-    fn labelled(&self, name: &'a [u8]) -> Shown<'a>
+    fn label_named_by(&self, name: &'a [u8]) -> ReplyLabel<'a>
         ensures { label_of result ≡ picked_label (labels_of self.now) name.now }
     {
-        Shown {
+        ReplyLabel {
             name,
             value: self.get(name),
         }

@@ -13,7 +13,7 @@ mod sources;
 mod summaries;
 
 pub use group_replies::{encode_groups, group};
-pub use group_texts::{encode_group, encode_group_rows, encode_one};
+pub use group_texts::{encode_group, encode_group_of, encode_group_rows};
 pub use labels::GroupLabels;
 pub use one_group::Group;
 pub use reduction::Reduction;

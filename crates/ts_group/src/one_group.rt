@@ -5,7 +5,7 @@ ghost use Rattle.ts_spec.specs.Groups.{Labelled, group};
 ghost use Rattle.ts_labels.specs.Show.{show_of};
 ghost use Rattle.ts_range.specs.Query.{row_of};
 ghost use Rattle.ts_command.specs.GroupBy.{group_of};
-ghost use Rattle.ts_group.specs.Grouped.{grouped, kept_rows, labelled_of};
+ghost use Rattle.ts_group.specs.Grouped.{grouped, reduction_of, labelled_of};
 ghost use Rattle.ts_group.specs.Labels.{member_with};
 
 use crate::labels::GroupLabels;
@@ -16,7 +16,7 @@ use std::alloc::{AllocError, Global};
 use ts_command::GroupBy;
 use ts_labels::Show;
 use ts_multi::Member;
-use ts_range::{Row, Take};
+use ts_range::{Row, RowSink};
 use ts_resp::Word;
 
 /// The keys of the series in a group so far, and their reduced rows.
@@ -47,15 +47,16 @@ impl Group {
 
     /// Adds a series by its key and its rows. After an `Err` the group may have part of it.
     pub fn add_rows(&mut self, key: &[u8], rows: &[Row]) -> Result<(), AllocError>
-        ensures { OnOk result ((ms : List Labelled) (m : Labelled) → m.key ≡ key.now → m.rows ≡ map row_of rows.now → self.old ≡ grouped ms
+        ensures { OnOk result ((ms : List Labelled) (m : Labelled) → m.key ≡ key.now → m.rows ≡ map row_of rows.now
+            → self.old ≡ grouped ms
             → self.new ≡ grouped (ms ++ m ∷ [])) }
     {
         self.sources.add(key)?;
-        take_rows(&mut self.reduction, rows)
+        accept_rows(&mut self.reduction, rows)
     }
 
     // The labels and rows that a reply shows for this group, where its series have this value of the label.
-    pub(crate) fn told<'a>(
+    pub(crate) fn reply_parts<'a>(
         &'a self,
         by: &'a GroupBy,
         value: &'a Word,
@@ -76,9 +77,9 @@ impl Group {
 }
 
 // Accepts all rows. Fails if memory runs out.
-fn take_rows(reduction: &mut Reduction, rows: &[Row]) -> Result<(), AllocError>
-    ensures { OnOk result ((before : List TheRow) → reduction.old ≡ kept_rows before
-        → reduction.new ≡ kept_rows (before ++ map row_of rows.now)) }
+fn accept_rows(reduction: &mut Reduction, rows: &[Row]) -> Result<(), AllocError>
+    ensures { OnOk result ((before : List TheRow) → reduction.old ≡ reduction_of before
+        → reduction.new ≡ reduction_of (before ++ map row_of rows.now)) }
 {
     for row in rows {
         reduction.row(*row);

@@ -2,14 +2,14 @@
 ghost use Rattle.std.specs.Prelude.{◌≡◌, false, List, []};
 ghost use Rattle.ts_spec.specs.Answer.{Row as TheRow};
 ghost use Rattle.ts_group.specs.Rows.{group_rows};
-ghost use Rattle.ts_group.specs.Summaries.{HasTaken};
+ghost use Rattle.ts_group.specs.Summaries.{HasAccepted};
 
 use crate::rows::GroupRows;
 use crate::summaries::Summaries;
 use std::alloc::Global;
 use std::marker::Model;
 use ts_agg::Reducer;
-use ts_range::{Keep, Row, Take};
+use ts_range::{FallibleRowSink, Row, RowSink};
 
 /// A sink that aggregates the rows of a group by time. Its memory grows with the number of distinct times, not with the
 /// number of rows. Rows may arrive in any order of time.
@@ -21,9 +21,9 @@ pub struct Reduction {
 }
 
 impl Model for Reduction {
-    ghost use Rattle.ts_group.specs.Summaries.{Kept, AreTimely};
+    ghost use Rattle.ts_group.specs.Summaries.{ReductionState, AreTimely};
 
-    ghost Value = { Kept };
+    ghost Value = { ReductionState };
 
     ghost view = { λ r. record { summaries = r.kept; lost = r.lost } };
 
@@ -33,7 +33,7 @@ impl Model for Reduction {
 impl Reduction {
     /// No rows yet. Allocates nothing.
     pub fn new(alloc: Global) -> Reduction
-        ensures taken { HasTaken result [] }
+        ensures taken { HasAccepted result [] }
         ensures kept { result.lost ≡ false }
     {
         Reduction {
@@ -51,17 +51,17 @@ impl Reduction {
 
     /// The reduced rows, at most `count` of them, newest first if `reverse`. Allocates nothing.
     pub fn rows(&self, reducer: Reducer, count: Option<u64>, reverse: bool) -> GroupRows<'_>
-        ensures { (rows : List TheRow) → HasTaken self.now rows → self.now.lost ≡ false
+        ensures { (rows : List TheRow) → HasAccepted self.now rows → self.now.lost ≡ false
             → result ≡ group_rows reducer count reverse rows }
     {
         GroupRows::new(&self.kept, reducer, count, reverse)
     }
 }
 
-impl Take for Reduction {
-    ghost use Rattle.ts_range.specs.Taking.{no_limit};
+impl RowSink for Reduction {
+    ghost use Rattle.ts_range.specs.SinkState.{no_limit};
 
-    ghost has = { λ r rows. HasTaken r rows };
+    ghost has = { λ r rows. HasAccepted r rows };
 
     ghost limit = { λ r. no_limit };
 
@@ -80,7 +80,7 @@ impl Take for Reduction {
     }
 }
 
-impl Keep for Reduction {
+impl FallibleRowSink for Reduction {
     fn lose(&mut self) {
         self.lost = true;
     }

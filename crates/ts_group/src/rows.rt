@@ -1,17 +1,17 @@
 // The reduced rows of a group.
 ghost use Rattle.std.specs.Prelude.{◌≡◌, ◌≤◌, List, ◌∷◌, ◌++◌, [], length, map, MatchOption, IfOk};
-ghost use Rattle.ts_spec.specs.Answer.{Row as TheRow, first_ones};
+ghost use Rattle.ts_spec.specs.Answer.{Row as TheRow, limit_rows};
 ghost use Rattle.ts_spec.specs.Sample.{MAX_TIME};
 ghost use Rattle.ts_range.specs.Query.{cell_of, row_of};
-ghost use Rattle.ts_range.specs.Walk.{most_of};
-ghost use Rattle.ts_group.specs.Rows.{cell_told, rows_told};
+ghost use Rattle.ts_range.specs.AskedSamples.{most_of};
+ghost use Rattle.ts_group.specs.Rows.{cell_of_summary, rows_of_summaries};
 ghost use Rattle.ts_group.specs.Summaries.{AreTimely};
 
 use crate::summaries::{Summaries, SummaryIter};
 use std::alloc::{AllocError, Global};
 use std::marker::Model;
 use ts_agg::{Reducer, Running, aggregator_of};
-use ts_range::{Row, RowList, Take};
+use ts_range::{Row, RowList, RowSink};
 use ts_sample::Cell;
 
 /// An iterator over the reduced rows of a group.
@@ -27,11 +27,11 @@ pub struct GroupRows<'a> {
 impl<'a> Model for GroupRows<'a> {
     ghost use Rattle.std.specs.Prelude.{List, take};
     ghost use Rattle.ts_spec.specs.Answer.{Row as TheRow};
-    ghost use Rattle.ts_group.specs.Rows.{rows_told};
+    ghost use Rattle.ts_group.specs.Rows.{rows_of_summaries};
 
     ghost Value = { List TheRow };
 
-    ghost view = { λ g. take g.left (rows_told g.reducer g.reverse g.times) };
+    ghost view = { λ g. take g.left (rows_of_summaries g.reducer g.reverse g.times) };
 
     ghost use Rattle.ts_group.specs.Rows.{AreInPart};
 
@@ -47,7 +47,7 @@ impl<'a> GroupRows<'a> {
         reverse: bool,
     ) -> GroupRows<'a>
         requires { AreTimely kept.now }
-        ensures { result ≡ first_ones count (rows_told reducer reverse kept.now) }
+        ensures { result ≡ limit_rows count (rows_of_summaries reducer reverse kept.now) }
     {
         GroupRows {
             times: kept.iter(),
@@ -75,22 +75,22 @@ impl<'a> GroupRows<'a> {
     }
 
     /// Emits the remaining rows to a sink.
-    pub fn hand_on<T: Take>(mut self, taker: &mut T)
-        ensures limit { T.limit taker.new ≡ T.limit taker.old }
-        ensures taken { (before : List TheRow) → T.has taker.old before → T.has taker.new (before ++ self.entry) }
+    pub fn emit_rows<T: RowSink>(mut self, row_sink: &mut T)
+        ensures limit { T.limit row_sink.new ≡ T.limit row_sink.old }
+        ensures taken { (before : List TheRow) → T.has row_sink.old before → T.has row_sink.new (before ++ self.entry) }
     {
         while let Some(row) = self.next() {
-            taker.row(row);
+            row_sink.row(row);
         }
     }
 
     /// Collects the remaining rows into a list.
-    pub fn into_list(self, alloc: Global) -> Result<Vec<Row>, AllocError>
+    pub fn collect_rows(self, alloc: Global) -> Result<Vec<Row>, AllocError>
         ensures { IfOk result (λ list. map row_of list.items ≡ self.entry) }
     {
-        let mut taker = RowList::with_room(alloc, self.len())?;
-        self.hand_on(&mut taker);
-        taker.into_rows()
+        let mut row_sink = RowList::with_reserved(alloc, self.len())?;
+        self.emit_rows(&mut row_sink);
+        row_sink.into_rows()
     }
 }
 
@@ -107,7 +107,8 @@ fn at_most(count: Option<u64>, rows: usize) -> usize
 // The row of the next time, from either end.
 fn next_row(times: &mut SummaryIter<'_>, reducer: Reducer, reverse: bool) -> Option<Row>
     requires { AreTimely times.old }
-    ensures row { MatchOption result (times.old ≡ []) (λ row. rows_told reducer reverse times.old ≡ row_of row ∷ rows_told reducer reverse times.new) }
+    ensures row { MatchOption result (times.old ≡ []) (λ row. rows_of_summaries reducer reverse times.old
+        ≡ row_of row ∷ rows_of_summaries reducer reverse times.new) }
     ensures timely { AreTimely times.new }
 {
     if reverse {
@@ -122,7 +123,7 @@ fn next_row(times: &mut SummaryIter<'_>, reducer: Reducer, reverse: bool) -> Opt
 fn row_at(time: u64, reducer: Reducer, running: &Running) -> Row
     requires { time ≤ MAX_TIME }
     ensures time { result.time ≡ time }
-    ensures value { cell_of result.value ≡ cell_told reducer running.now }
+    ensures value { cell_of result.value ≡ cell_of_summary reducer running.now }
 {
     Row {
         time,
@@ -132,7 +133,7 @@ fn row_at(time: u64, reducer: Reducer, running: &Running) -> Row
 
 // The reduced value of a time, NaN if all its rows are NaN.
 fn cell_at(reducer: Reducer, running: &Running) -> Cell
-    ensures { cell_of result ≡ cell_told reducer running.now }
+    ensures { cell_of result ≡ cell_of_summary reducer running.now }
 {
     match running.result(aggregator_of(reducer)) {
         None => Cell::Nan,

@@ -4,7 +4,7 @@ ghost use Rattle.ts_spec.specs.Aggregate.{summary};
 ghost use Rattle.ts_spec.specs.Groups.{number_then};
 ghost use Rattle.ts_spec.specs.Sample.{Point, MAX_TIME};
 ghost use Rattle.ts_range.specs.Query.{cell_of};
-ghost use Rattle.ts_group.specs.Places.{slot_at};
+ghost use Rattle.ts_group.specs.SlotIndices.{slot_at};
 
 use std::alloc::AllocError;
 use ts_agg::Running;
@@ -43,10 +43,10 @@ impl Slot {
 }
 
 // Whether the slot at this index exists and has this time.
-pub(crate) fn is_of(slots: &[Slot], place: usize, time: u64) -> bool
-    ensures { result ≡ true → (place < length slots.now) × ((slot_at slots.now place).time ≡ time) }
+pub(crate) fn is_slot_of(slots: &[Slot], list_index: usize, time: u64) -> bool
+    ensures { result ≡ true → (list_index < length slots.now) × ((slot_at slots.now list_index).time ≡ time) }
 {
-    match slots.get(place) {
+    match slots.get(list_index) {
         Some(slot) => slot.time == time,
         None => false,
     }
@@ -69,7 +69,7 @@ fn count_number(running: &mut Running, sample: &Sample) -> Result<(), AllocError
     ensures { OnOk result ((ps : List Point) → running.old ≡ summary ps
         → running.new ≡ summary (ps ++ sample.now ∷ [])) }
 {
-    if !running.has_room() {
+    if !running.has_capacity() {
         return Err(AllocError);
     }
     running.push(sample);

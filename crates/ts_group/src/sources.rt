@@ -1,7 +1,7 @@
 // The keys of the series of a group, separated by commas.
 ghost use Rattle.std.specs.Prelude.{◌≡◌, ◌++◌, List, [], ◌∷◌, if◌then◌else◌, codes, OnOk};
 ghost use Rattle.ts_spec.specs.Key.{Key};
-ghost use Rattle.ts_group.specs.Sources.{joined, joining};
+ghost use Rattle.ts_group.specs.Sources.{joined, sources_text};
 
 use std::alloc::{AllocError, Global};
 use std::marker::Model;
@@ -15,9 +15,9 @@ pub struct Sources {
 }
 
 impl Model for Sources {
-    ghost use Rattle.ts_group.specs.Sources.{Joined};
+    ghost use Rattle.ts_group.specs.Sources.{SourcesText};
 
-    ghost Value = { Joined };
+    ghost Value = { SourcesText };
 
     ghost view = { λ s. record { some = s.some; text = s.text.items } };
 }
@@ -25,7 +25,7 @@ impl Model for Sources {
 impl Sources {
     /// No key yet. Allocates nothing.
     pub fn new(alloc: Global) -> Sources
-        ensures { result ≡ joining [] }
+        ensures { result ≡ sources_text [] }
     {
         Sources {
             text: Vec::new(alloc),
@@ -35,8 +35,8 @@ impl Sources {
 
     /// Appends a key. After an `Err` the text may end in part of it.
     pub fn add(&mut self, key: &[u8]) -> Result<(), AllocError>
-        ensures { OnOk result ((keys : List Key) → self.old ≡ joining keys
-            → self.new ≡ joining (keys ++ key.now ∷ [])) }
+        ensures { OnOk result ((keys : List Key) → self.old ≡ sources_text keys
+            → self.new ≡ sources_text (keys ++ key.now ∷ [])) }
     {
         add_after(&mut self.text, self.some, key)?;
         self.some = true;
@@ -45,7 +45,7 @@ impl Sources {
 
     /// The text of the keys.
     pub fn bytes(&self) -> &[u8]
-        ensures { (keys : List Key) → self.now ≡ joining keys → result.now ≡ joined keys }
+        ensures { (keys : List Key) → self.now ≡ sources_text keys → result.now ≡ joined keys }
     {
         &self.text
     }

@@ -12,7 +12,7 @@ use Rattle.std.specs.List.Sorted.{IsPermutation}
 use Rattle.std.specs.Ordering.{nat_cmp}
 use Rattle.ts_sample.specs.declared.sample.Id.{Id}
 use Rattle.ts_index.specs.Index.{Labelled}
-use Rattle.ts_index.specs.Numbers.{has_number}
+use Rattle.ts_index.specs.Numbers.{has_id}
 use Rattle.ts_index.specs.Candidates.{AreApart, AreLive}
 use Rattle.ts_index.proofs.NumberLemmas.{is_at-number}
 
@@ -26,23 +26,23 @@ numbers is = map (λ i. i.0) is
 alike-laws : IsEquivalence alike_numbers
 alike-laws = subst IsEquivalence (λ i q k. sym (is_at-number q k) i) nat_eq_equiv
 
-has_number-numbers : (q : ℕ) (is : List Id) → list_any (alike_numbers q) (numbers is) ≡ has_number q is
-has_number-numbers q [] = refl
-has_number-numbers q (i ∷ is) = λ k. is_at-number q i.0 k || has_number-numbers q is k
+has_id-numbers : (q : ℕ) (is : List Id) → list_any (alike_numbers q) (numbers is) ≡ has_id q is
+has_id-numbers q [] = refl
+has_id-numbers q (i ∷ is) = λ k. is_at-number q i.0 k || has_id-numbers q is k
 
 pub neither : (a b : Bool) → (a || b) ≡ false → (a ≡ false) × (b ≡ false)
 neither true b h = absurd (false≢true (sym h))
 neither false b h = (refl, h)
 
-none_alike : (n : ℕ) (is : List Id) → has_number n is ≡ false → AllByRecursion (λ k. alike_numbers n k ≡ false) (numbers is)
+none_alike : (n : ℕ) (is : List Id) → has_id n is ≡ false → AllByRecursion (λ k. alike_numbers n k ≡ false) (numbers is)
 none_alike n [] h = tt
 none_alike n (i ∷ is) h =
-    let both = neither (n == i.0) (has_number n is) h in
+    let both = neither (n == i.0) (has_id n is) h in
     (is_at-number n i.0 ∙ both.0, none_alike n is both.1)
 
-alike_none : (n : ℕ) (is : List Id) → AllByRecursion (λ k. alike_numbers n k ≡ false) (numbers is) → has_number n is ≡ false
+alike_none : (n : ℕ) (is : List Id) → AllByRecursion (λ k. alike_numbers n k ≡ false) (numbers is) → has_id n is ≡ false
 alike_none n [] h = refl
-alike_none n (i ∷ is) h = ap (λ b. b || has_number n is) (sym (is_at-number n i.0) ∙ h.0) ∙ alike_none n is h.1
+alike_none n (i ∷ is) h = ap (λ b. b || has_id n is) (sym (is_at-number n i.0) ∙ h.0) ∙ alike_none n is h.1
 
 distinct : (is : List Id) → AreApart is → IsDistinct alike_numbers (numbers is)
 unfolding IsDistinct
@@ -58,7 +58,7 @@ apart (i ∷ is) a = (alike_none i.0 is a.0, apart is a.1)
 pub length-apart : (es : Labelled) (is : List Id) → AreApart is → AreLive es is → length is ≤ length es
 length-apart es is a live =
     subst (λ n. n ≤ length es) (length-map is (λ i. i.0))
-    (length-le_from_keys alike-laws (numbers is) es (distinct is a) (λ q h. live q (sym (has_number-numbers q is) ∙ h)))
+    (length-le_from_keys alike-laws (numbers is) es (distinct is a) (λ q h. live q (sym (has_id-numbers q is) ∙ h)))
 
 -- none is twice in another order either
 pub apart-permuted : (xs ys : List Id) → IsPermutation xs ys → AreApart xs → AreApart ys

@@ -6,10 +6,10 @@ use Rattle.std.specs.Ordering.{nat_cmp}
 use Rattle.std.specs.BTreeMap.{BTreeMap, is_at}
 use Rattle.ts_spec.specs.State.{Label}
 use Rattle.ts_sample.specs.declared.sample.Id.{Id}
-use Rattle.ts_index.specs.Index.{Labelled, Relabels, labels_of, numbers_where, has_pair}
-use Rattle.ts_index.specs.Numbers.{AreInOrder, AreAscending, has_number, pass}
+use Rattle.ts_index.specs.Index.{Labelled, Relabels, labels_of, ids_where, has_pair}
+use Rattle.ts_index.specs.Numbers.{AreInOrder, AreAscending, has_id, pass}
 use Rattle.ts_index.specs.Postings.{posting_in, ArePosted}
-use Rattle.ts_index.proofs.NumberLemmas.{has_number-where, AreAscending-where, is_at-number}
+use Rattle.ts_index.proofs.NumberLemmas.{has_id-where, AreAscending-where, is_at-number}
 use Rattle.ts_index.proofs.MemberLemmas.{same_numbers}
 
 -- labels with no pair of another
@@ -23,9 +23,9 @@ or-none false = refl
 
 module _ {Z : Type 0} where
   -- which ids are listed
-  pub listed-where : (es : Labelled) (lists : BTreeMap (List ℕ) (BTreeMap (List ℕ) (Vec Id Z))) → AreInOrder es → ArePosted es lists
-      → (l v : List ℕ) (q : ℕ) → has_number q (posting_in l v lists) ≡ pass (has_pair l v) (labels_of q es)
-  listed-where es lists o posted l v q = ap (has_number q) (posted l v) ∙ has_number-where (has_pair l v) es o q
+  pub posting_list-where : (es : Labelled) (lists : BTreeMap (List ℕ) (BTreeMap (List ℕ) (Vec Id Z))) → AreInOrder es → ArePosted es lists
+      → (l v : List ℕ) (q : ℕ) → has_id q (posting_in l v lists) ≡ pass (has_pair l v) (labels_of q es)
+  posting_list-where es lists o posted l v q = ap (has_id q) (posted l v) ∙ has_id-where (has_pair l v) es o q
 
   pub ascending-where : (es : Labelled) (lists : BTreeMap (List ℕ) (BTreeMap (List ℕ) (Vec Id Z))) → AreInOrder es → ArePosted es lists
       → (l v : List ℕ) → AreAscending (posting_in l v lists)
@@ -34,24 +34,24 @@ module _ {Z : Type 0} where
   -- the same ids are listed
   pub posted-same : (es : Labelled) (lists after : BTreeMap (List ℕ) (BTreeMap (List ℕ) (Vec Id Z))) → AreInOrder es → ArePosted es lists
       → ((l v : List ℕ) → AreAscending (posting_in l v after))
-      → ((l v : List ℕ) (q : ℕ) → has_number q (posting_in l v after) ≡ has_number q (posting_in l v lists)) → ArePosted es after
+      → ((l v : List ℕ) (q : ℕ) → has_id q (posting_in l v after) ≡ has_id q (posting_in l v lists)) → ArePosted es after
   posted-same es lists after o posted up same l v =
       same_numbers (posting_in l v after) (posting_in l v lists) (up l v) (ascending-where es lists o posted l v) (same l v) ∙ posted l v
 
   -- one id has other labels
   pub posted-after : (es new : Labelled) (after : BTreeMap (List ℕ) (BTreeMap (List ℕ) (Vec Id Z))) (id : Id) (labels : Option (List Label))
       → AreInOrder new → Relabels id labels es new → ((l v : List ℕ) → AreAscending (posting_in l v after))
-      → ((l v : List ℕ) → has_number id.0 (posting_in l v after) ≡ pass (has_pair l v) labels)
-      → ((l v : List ℕ) (q : ℕ) → (q == id.0) ≡ false → has_number q (posting_in l v after) ≡ pass (has_pair l v) (labels_of q es))
+      → ((l v : List ℕ) → has_id id.0 (posting_in l v after) ≡ pass (has_pair l v) labels)
+      → ((l v : List ℕ) (q : ℕ) → (q == id.0) ≡ false → has_id q (posting_in l v after) ≡ pass (has_pair l v) (labels_of q es))
       → ArePosted new after
   posted-after es new after id labels o gives up here others l v =
-      same_numbers (posting_in l v after) (numbers_where (has_pair l v) new) (up l v) (AreAscending-where (has_pair l v) new o)
-      (λ q. by q (q == id.0) refl ∙ sym (has_number-where (has_pair l v) new o q))
+      same_numbers (posting_in l v after) (ids_where (has_pair l v) new) (up l v) (AreAscending-where (has_pair l v) new o)
+      (λ q. by q (q == id.0) refl ∙ sym (has_id-where (has_pair l v) new o q))
     where
-      by : (q : ℕ) (b : Bool) → (q == id.0) ≡ b → has_number q (posting_in l v after) ≡ pass (has_pair l v) (labels_of q new)
+      by : (q : ℕ) (b : Bool) → (q == id.0) ≡ b → has_id q (posting_in l v after) ≡ pass (has_pair l v) (labels_of q new)
       by q true p =
           let same : q ≡ id.0 = eqb-true q id.0 p in
-          ap (λ n. has_number n (posting_in l v after)) same ∙ here l v ∙ ap (pass (has_pair l v)) (sym (ap (λ n. labels_of n new) same ∙ gives.here))
+          ap (λ n. has_id n (posting_in l v after)) same ∙ here l v ∙ ap (pass (has_pair l v)) (sym (ap (λ n. labels_of n new) same ∙ gives.here))
       by q false p = others l v q p ∙ ap (pass (has_pair l v)) (sym (gives.others q (λ e. absurd (false≢true (sym p ∙ eq-eqb q id.0 e)))))
 
 -- ---- what is listed of an id that came, went, or got other labels
@@ -75,8 +75,8 @@ not_theirs true false h = refl
 not_theirs true true h = absurd (false≢true h)
 not_theirs false theirs h = absurd (false≢true h)
 
-pub other-put : (x own before : Bool) → x ≡ false → ((x && own) || before) ≡ before
-other-put x own before e = rw e refl
+pub other-insert_id : (x own before : Bool) → x ≡ false → ((x && own) || before) ≡ before
+other-insert_id x own before e = rw e refl
 
 pub other-take : (x own before : Bool) → x ≡ false → (before && not (x && own)) ≡ before
 other-take x own before e = rw e (none_own before)

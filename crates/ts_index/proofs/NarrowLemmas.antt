@@ -11,7 +11,7 @@ use Rattle.ts_spec.specs.Filter.{Filter, holds, all_hold, is_positive, has_posit
 use Rattle.ts_spec.specs.State.{Label}
 use Rattle.ts_index.specs.Index.{Labelled}
 use Rattle.ts_index.specs.Bounds.{candidates, fewest}
-use Rattle.ts_index.specs.Narrowest.{IsBest}
+use Rattle.ts_index.specs.MostSelective.{IsBest}
 
 -- ---- the lesser of two numbers
 
@@ -30,8 +30,8 @@ min-either a b = go (cases_order a b)
     go (inr (inr more)) = let second : b ≤ a = omega (arith, more) in inr (second, min-second a b second)
 
 -- what is more than the bound is the bound
-pub min-added : (count more rest most : ℕ) → min (min (count + more) most + rest) most ≡ min (count + (more + rest)) most
-min-added count more rest most = go (min-either (count + more) most)
+pub min-capped_sum : (count more rest most : ℕ) → min (min (count + more) most + rest) most ≡ min (count + (more + rest)) most
+min-capped_sum count more rest most = go (min-either (count + more) most)
   where
     go : (((count + more) ≤ most) × (min (count + more) most ≡ count + more)) ⊎ ((most ≤ (count + more)) × (min (count + more) most ≡ most)) → min (min (count + more) most + rest) most ≡ min (count + (more + rest)) most
     go (inl both) = ap (λ (n : ℕ). min (n + rest) most) both.1 ∙ ap (λ (n : ℕ). min n most) (let same : count + more + rest ≡ count + (more + rest) = omega arith in same)
@@ -41,17 +41,17 @@ min-added count more rest most = go (min-either (count + more) most)
         ap (λ (n : ℕ). min (n + rest) most) both.1 ∙ min-second (most + rest) most one ∙ sym (min-second (count + (more + rest)) most other)
 
 -- the next of some numbers is added
-pub weight-on : {X : Type 0} (g : X → ℕ) (xs : List X) (i : ℕ) (x : X) (count most : ℕ) → i < length xs → x ≡ get_or xs i x
+pub candidate_count-on : {X : Type 0} (g : X → ℕ) (xs : List X) (i : ℕ) (x : X) (count most : ℕ) → i < length xs → x ≡ get_or xs i x
     → min (min (count + g x) most + sum_by g (drop (i + 1) xs)) most ≡ min (count + sum_by g (drop i xs)) most
-weight-on g xs i x count most inside is =
+candidate_count-on g xs i x count most inside is =
     let one : suc i ≡ i + 1 = omega arith in
     let next : drop i xs ≡ x ∷ drop (i + 1) xs = drop-cons xs i x inside ∙ (λ j. (sym is) j ∷ drop (one j) xs) in
-    min-added count (g x) (sum_by g (drop (i + 1) xs)) most
+    min-capped_sum count (g x) (sum_by g (drop (i + 1) xs)) most
     ∙ ap (λ (n : ℕ). min (count + n) most) (sym (ap (sum_by g) next ∙ sum_by-cons g x (drop (i + 1) xs)))
 
 -- and after the last one nothing is
-pub weight-all : {X : Type 0} (g : X → ℕ) (xs : List X) (i count most : ℕ) → length xs ≤ i → count ≤ most → min (count + sum_by g (drop i xs)) most ≡ min (sum_by g xs) most → count ≡ min (sum_by g xs) most
-weight-all g xs i count most end few is =
+pub candidate_count-all : {X : Type 0} (g : X → ℕ) (xs : List X) (i count most : ℕ) → length xs ≤ i → count ≤ most → min (count + sum_by g (drop i xs)) most ≡ min (sum_by g xs) most → count ≡ min (sum_by g xs) most
+candidate_count-all g xs i count most end few is =
     let all : count ≡ count + sum_by g (drop i xs) = let empty : sum_by g (drop i xs) ≡ 0 = ap (sum_by g) (drop_all i xs end) in omega (arith, empty) in
     sym (min-first count most few) ∙ ap (λ (n : ℕ). min n most) all ∙ is
 
@@ -68,8 +68,8 @@ fewest-none es (f ∷ fs) lacks = go (is_positive f) (fewest-none es fs) lacks
 -- ---- one filter more
 
 -- how many candidates a filter has, up to all numbers
-abbrev pub weight : Labelled → Filter → ℕ
-weight es f = min (candidates es f) (length es)
+abbrev pub candidate_count : Labelled → Filter → ℕ
+candidate_count es f = min (candidates es f) (length es)
 
 min-assoc : (a b c : ℕ) → min a (min b c) ≡ min (min a b) c
 min-assoc a b c = go (min-either a b) (min-either b c)
@@ -84,19 +84,19 @@ min-assoc a b c = go (min-either a b) (min-either b c)
         let low : c ≤ a = omega (arith, l.0, m.0) in
         ap (min a) m.1 ∙ min-second a c low ∙ sym (ap (λ (n : ℕ). min n c) l.1 ∙ m.1)
 
-pub fewest-push : (es : Labelled) (fs : List Filter) (f : Filter) → is_positive f ≡ true → fewest es (fs ++ f ∷ []) ≡ min (fewest es fs) (weight es f)
+pub fewest-push : (es : Labelled) (fs : List Filter) (f : Filter) → is_positive f ≡ true → fewest es (fs ++ f ∷ []) ≡ min (fewest es fs) (candidate_count es f)
 fewest-push es [] f is =
-    let few : weight es f ≤ length es = by (min-either (candidates es f) (length es)) in
-    rw is (sym (min-second (length es) (weight es f) few))
+    let few : candidate_count es f ≤ length es = by (min-either (candidates es f) (length es)) in
+    rw is (sym (min-second (length es) (candidate_count es f) few))
   where
-    by : ((candidates es f ≤ length es) × (weight es f ≡ candidates es f)) ⊎ ((length es ≤ candidates es f) × (weight es f ≡ length es)) → weight es f ≤ length es
+    by : ((candidates es f ≤ length es) × (candidate_count es f ≡ candidates es f)) ⊎ ((length es ≤ candidates es f) × (candidate_count es f ≡ length es)) → candidate_count es f ≤ length es
     by (inl both) = omega (arith, both.0, both.1)
     by (inr both) = omega (arith, both.0, both.1)
 fewest-push es (g ∷ fs) f is = go (is_positive g) (fewest-push es fs f is)
   where
-    go : (b : Bool) → fewest es (fs ++ f ∷ []) ≡ min (fewest es fs) (weight es f)
-        → (if b then min (candidates es g) (fewest es (fs ++ f ∷ [])) else fewest es (fs ++ f ∷ [])) ≡ min (if b then min (candidates es g) (fewest es fs) else fewest es fs) (weight es f)
-    go true rest = ap (min (candidates es g)) rest ∙ min-assoc (candidates es g) (fewest es fs) (weight es f)
+    go : (b : Bool) → fewest es (fs ++ f ∷ []) ≡ min (fewest es fs) (candidate_count es f)
+        → (if b then min (candidates es g) (fewest es (fs ++ f ∷ [])) else fewest es (fs ++ f ∷ [])) ≡ min (if b then min (candidates es g) (fewest es fs) else fewest es fs) (candidate_count es f)
+    go true rest = ap (min (candidates es g)) rest ∙ min-assoc (candidates es g) (fewest es fs) (candidate_count es f)
     go false rest = rest
 
 pub fewest-pass : (es : Labelled) (fs : List Filter) (f : Filter) → is_positive f ≡ false → fewest es (fs ++ f ∷ []) ≡ fewest es fs
@@ -132,10 +132,10 @@ module _ (es : Labelled) (fs : List Filter) (f : Filter) where
   )
 
   -- nor does one with as many candidates
-  pub best-stays : (best : Filter × ℕ) → is_positive f ≡ true → best.1 ≤ weight es f → IsBest es fs (Some best) → IsBest es (fs ++ f ∷ []) (Some best)
+  pub best-stays : (best : Filter × ℕ) → is_positive f ≡ true → best.1 ≤ candidate_count es f → IsBest es fs (Some best) → IsBest es (fs ++ f ∷ []) (Some best)
   best-stays best asks least is =
-      let few : fewest es fs ≤ weight es f = omega (arith, is.1, least) in
-      let same : fewest es fs ≡ fewest es (fs ++ f ∷ []) = sym (min-first (fewest es fs) (weight es f) few) ∙ sym (fewest-push es fs f asks) in (
+      let few : fewest es fs ≤ candidate_count es f = omega (arith, is.1, least) in
+      let same : fewest es fs ≡ fewest es (fs ++ f ∷ []) = sym (min-first (fewest es fs) (candidate_count es f) few) ∙ sym (fewest-push es fs f asks) in (
         record {
           positive = is.0.positive;
           among = λ labels all. is.0.among labels (hold-push fs f labels all).0;
@@ -145,23 +145,23 @@ module _ (es : Labelled) (fs : List Filter) (f : Filter) where
       )
 
   -- one with fewer is the best
-  better : (count : ℕ) → is_positive f ≡ true → count ≡ weight es f → weight es f ≤ fewest es fs → IsBest es (fs ++ f ∷ []) (Some (f, count))
-  better count asks is few =
-      let same : weight es f ≡ fewest es (fs ++ f ∷ []) = sym (min-second (fewest es fs) (weight es f) few) ∙ sym (fewest-push es fs f asks) in
+  more_selective : (count : ℕ) → is_positive f ≡ true → count ≡ candidate_count es f → candidate_count es f ≤ fewest es fs → IsBest es (fs ++ f ∷ []) (Some (f, count))
+  more_selective count asks is few =
+      let same : candidate_count es f ≡ fewest es (fs ++ f ∷ []) = sym (min-second (fewest es fs) (candidate_count es f) few) ∙ sym (fewest-push es fs f asks) in
       (record { positive = asks; among = λ labels all. (hold-push fs f labels all).1; few = same }, is ∙ same)
 
-  weight-few : weight es f ≤ length es
-  weight-few = by (min-either (candidates es f) (length es))
+  candidate_count-few : candidate_count es f ≤ length es
+  candidate_count-few = by (min-either (candidates es f) (length es))
     where
-      by : ((candidates es f ≤ length es) × (weight es f ≡ candidates es f)) ⊎ ((length es ≤ candidates es f) × (weight es f ≡ length es)) → weight es f ≤ length es
+      by : ((candidates es f ≤ length es) × (candidate_count es f ≡ candidates es f)) ⊎ ((length es ≤ candidates es f) × (candidate_count es f ≡ length es)) → candidate_count es f ≤ length es
       by (inl both) = omega (arith, both.0, both.1)
       by (inr both) = omega (arith, both.0, both.1)
 
-  pub best-first : (count : ℕ) → is_positive f ≡ true → count ≡ weight es f → has_positive fs ≡ false → IsBest es (fs ++ f ∷ []) (Some (f, count))
-  best-first count asks is lacks = better count asks is (omega (arith, weight-few, fewest-none es fs lacks))
+  pub best-first : (count : ℕ) → is_positive f ≡ true → count ≡ candidate_count es f → has_positive fs ≡ false → IsBest es (fs ++ f ∷ []) (Some (f, count))
+  best-first count asks is lacks = more_selective count asks is (omega (arith, candidate_count-few, fewest-none es fs lacks))
 
-  pub best-fewer : (best : Filter × ℕ) (count : ℕ) → is_positive f ≡ true → count ≡ weight es f → count < best.1 → IsBest es fs (Some best) → IsBest es (fs ++ f ∷ []) (Some (f, count))
-  best-fewer best count asks is fewer was = better count asks is (omega (arith, is, fewer, was.1))
+  pub best-fewer : (best : Filter × ℕ) (count : ℕ) → is_positive f ≡ true → count ≡ candidate_count es f → count < best.1 → IsBest es fs (Some best) → IsBest es (fs ++ f ∷ []) (Some (f, count))
+  best-fewer best count asks is fewer was = more_selective count asks is (omega (arith, is, fewer, was.1))
 
 -- ---- borrowed filters
 

@@ -12,8 +12,8 @@ use Rattle.std.specs.Map.{keys_of}
 use Rattle.std.proofs.lemmas.Map.Views.{Contains-from_any, list_any-from_Contains, All-after_first}
 use Rattle.ts_spec.specs.State.{Label}
 use Rattle.ts_sample.specs.declared.sample.Id.{Id}
-use Rattle.ts_index.specs.Index.{Labelled, labels_of, numbers_where}
-use Rattle.ts_index.specs.Numbers.{AreInOrder, AreAscending, has_number, pass}
+use Rattle.ts_index.specs.Index.{Labelled, labels_of, ids_where}
+use Rattle.ts_index.specs.Numbers.{AreInOrder, AreAscending, has_id, pass}
 
 -- the map finds equal ids
 pub is_at-number : (q k : ℕ) → is_at (nat_cmp q) k ≡ (q == k)
@@ -30,12 +30,12 @@ none_before q (e ∷ es) h =
     rw (is_at-number q e.0, ne_eqb q e.0 (λ d. absurd (omega arith))) (none_before q es h.1)
 
 -- an id is among those whose labels pass, where it has labels that pass
-pub has_number-where : (test : List Label → Bool) (es : Labelled) → AreInOrder es → (q : ℕ) → has_number q (numbers_where test es) ≡ pass test (labels_of q es)
-has_number-where test [] o q = refl
-has_number-where test (e ∷ es) o q = rw (is_at-number q e.0) (by (q == e.0) (test e.1) refl refl (has_number-where test es o.1 q))
+pub has_id-where : (test : List Label → Bool) (es : Labelled) → AreInOrder es → (q : ℕ) → has_id q (ids_where test es) ≡ pass test (labels_of q es)
+has_id-where test [] o q = refl
+has_id-where test (e ∷ es) o q = rw (is_at-number q e.0) (by (q == e.0) (test e.1) refl refl (has_id-where test es o.1 q))
   where
-    by : (b t : Bool) → (q == e.0) ≡ b → test e.1 ≡ t → has_number q (numbers_where test es) ≡ pass test (labels_of q es)
-        → has_number q (if t then record { 0 = e.0 } ∷ numbers_where test es else numbers_where test es) ≡ pass test (if b then Some e.1 else labels_of q es)
+    by : (b t : Bool) → (q == e.0) ≡ b → test e.1 ≡ t → has_id q (ids_where test es) ≡ pass test (labels_of q es)
+        → has_id q (if t then record { 0 = e.0 } ∷ ids_where test es else ids_where test es) ≡ pass test (if b then Some e.1 else labels_of q es)
     by true true p s ih = rw (p, s) refl
     by true false p s ih =
         let same : q ≡ e.0 = eqb-true q e.0 p in
@@ -45,22 +45,22 @@ has_number-where test (e ∷ es) o q = rw (is_at-number q e.0) (by (q == e.0) (t
     by false false p s ih = ih
 
 -- ids after one stay after it
-all_after : (test : List Label → Bool) (i : ℕ) (es : Labelled) → AllByRecursion (λ f. i < f.0) es → AllByRecursion (λ j. i < j.0) (numbers_where test es)
+all_after : (test : List Label → Bool) (i : ℕ) (es : Labelled) → AllByRecursion (λ f. i < f.0) es → AllByRecursion (λ j. i < j.0) (ids_where test es)
 all_after test i [] h = tt
 all_after test i (e ∷ es) h = by (test e.1) (all_after test i es h.1)
   where
-    by : (t : Bool) → AllByRecursion (λ j. i < j.0) (numbers_where test es)
-        → AllByRecursion (λ j. i < j.0) (if t then record { 0 = e.0 } ∷ numbers_where test es else numbers_where test es)
+    by : (t : Bool) → AllByRecursion (λ j. i < j.0) (ids_where test es)
+        → AllByRecursion (λ j. i < j.0) (if t then record { 0 = e.0 } ∷ ids_where test es else ids_where test es)
     by true rest = (h.0, rest)
     by false rest = rest
 
 -- and ascend
-pub AreAscending-where : (test : List Label → Bool) (es : Labelled) → AreInOrder es → AreAscending (numbers_where test es)
+pub AreAscending-where : (test : List Label → Bool) (es : Labelled) → AreInOrder es → AreAscending (ids_where test es)
 AreAscending-where test [] o = tt
 AreAscending-where test (e ∷ es) o = by (test e.1) (AreAscending-where test es o.1)
   where
-    by : (t : Bool) → AreAscending (numbers_where test es)
-        → AreAscending (if t then record { 0 = e.0 } ∷ numbers_where test es else numbers_where test es)
+    by : (t : Bool) → AreAscending (ids_where test es)
+        → AreAscending (if t then record { 0 = e.0 } ∷ ids_where test es else ids_where test es)
     by true rest = (all_after test e.0 es o.0, rest)
     by false rest = rest
 
@@ -79,9 +79,9 @@ equal_ids : (x y : Id) → (x.0 == y.0) ≡ true → x ≡ y
 equal_ids x y h = ap (λ n. record { 0 = n }) (eqb-true x.0 y.0 h)
 
 -- an id that is one of these is found among them
-pub has_number-from_Contains : (is : List Id) (i : Id) → Contains is i → has_number i.0 is ≡ true
-has_number-from_Contains is i h = list_any-from_Contains (on_equiv (λ (x : Id). x.0) nat_eq_equiv) i is h
+pub has_id-from_Contains : (is : List Id) (i : Id) → Contains is i → has_id i.0 is ≡ true
+has_id-from_Contains is i h = list_any-from_Contains (on_equiv (λ (x : Id). x.0) nat_eq_equiv) i is h
 
 -- and the other way round
-pub Contains-from_has_number : (is : List Id) (i : Id) → has_number i.0 is ≡ true → Contains is i
+pub Contains-from_has_number : (is : List Id) (i : Id) → has_id i.0 is ≡ true → Contains is i
 Contains-from_has_number is i h = Contains-from_any equal_ids i is h

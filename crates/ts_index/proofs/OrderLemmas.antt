@@ -8,7 +8,7 @@ use Rattle.std.specs.Ordering.{nat_cmp, is_lt}
 use Rattle.std.specs.declared.cmp.Ordering.{Ordering}
 use Rattle.std.specs.declared.cmp.Ordering.TheVariants.{Less, Equal, Greater}
 use Rattle.ts_sample.specs.declared.sample.Id.{Id}
-use Rattle.ts_index.specs.Numbers.{AreAscending, has_number}
+use Rattle.ts_index.specs.Numbers.{AreAscending, has_id}
 use Rattle.ts_index.specs.Candidates.{AreApart}
 use Rattle.ts_index.proofs.ApartLemmas.{neither}
 use Rattle.ts_index.proofs.MemberLemmas.{chained}
@@ -30,7 +30,7 @@ ascending (i ∷ []) s a = (tt, tt)
 ascending (i ∷ x ∷ is) s a =
     let le : i.0 ≤ x.0 = not_less x.0 i.0 (nat_cmp x.0 i.0) refl (s 0 i (omega arith) (omega arith)) in
     let rest : AreAscending (x ∷ is) = ascending (x ∷ is) (tail s) a.1 in
-    let less : i.0 < x.0 = by le (neither (i.0 == x.0) (has_number i.0 is) a.0).0 in
+    let less : i.0 < x.0 = by le (neither (i.0 == x.0) (has_id i.0 is) a.0).0 in
     ((less, chained i.0 x.0 is less rest.0), rest)
   where
     tail : AreSorted (i ∷ x ∷ is) → AreSorted (x ∷ is)

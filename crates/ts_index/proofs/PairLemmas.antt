@@ -11,10 +11,10 @@ use Rattle.ts_labels.proofs.LabelLemmas.{pointwise-same, apart}
 use Rattle.ts_index.specs.Index.{has_pair}
 use Rattle.ts_index.specs.Pairs.{is_own}
 use Rattle.ts_index.specs.Postings.{alike}
-use Rattle.ts_index.specs.Numbers.{AreAscending, has_number, with_number, without_number}
+use Rattle.ts_index.specs.Numbers.{AreAscending, has_id, with_id, without_id}
 use Rattle.ts_sample.specs.declared.sample.Id.{Id}
 use Rattle.ts_index.proofs.PostingLemmas.{alike-same}
-use Rattle.ts_index.proofs.MemberLemmas.{AreAscending-with, AreAscending-without, has_number-with, has_number-without}
+use Rattle.ts_index.proofs.MemberLemmas.{AreAscending-with, AreAscending-without, has_id-with, has_id-without}
 
 -- a map takes the same words for one
 pub alike-is : (one other : List ℕ) → alike one other ≡ same one other
@@ -29,24 +29,24 @@ and-true true = refl
 and-true false = refl
 
 -- nothing comes, and nothing goes
-pub keeps-put : (x s o : Bool) → s ≡ false → o ≡ ((x && s) || o)
-keeps-put true s o e = rw e refl
-keeps-put false s o e = refl
+pub keeps-insert_id : (x s o : Bool) → s ≡ false → o ≡ ((x && s) || o)
+keeps-insert_id true s o e = rw e refl
+keeps-insert_id false s o e = refl
 
 pub keeps-take : (x s o : Bool) → s ≡ false → o ≡ (o && not (x && s))
 keeps-take true s o e = rw e (sym (and-true o))
 keeps-take false s o e = sym (and-true o)
 
 -- one more pair comes
-pub step-put : (o x t s n : Bool) → ((x && (s && n)) || ((x && (t && n)) || o)) ≡ ((x && ((t || s) && n)) || o)
-step-put o false t s n = refl
-step-put o true true true true = refl
-step-put o true true true false = refl
-step-put o true true false true = refl
-step-put o true true false false = refl
-step-put o true false true true = refl
-step-put o true false true false = refl
-step-put o true false false n = refl
+pub step-insert_id : (o x t s n : Bool) → ((x && (s && n)) || ((x && (t && n)) || o)) ≡ ((x && ((t || s) && n)) || o)
+step-insert_id o false t s n = refl
+step-insert_id o true true true true = refl
+step-insert_id o true true true false = refl
+step-insert_id o true true false true = refl
+step-insert_id o true true false false = refl
+step-insert_id o true false true true = refl
+step-insert_id o true false true false = refl
+step-insert_id o true false false n = refl
 
 -- one more pair goes
 pub step-take : (o x t s n : Bool) → ((o && not (x && (t && n))) && not (x && (s && n))) ≡ (o && not (x && ((t || s) && n)))
@@ -126,21 +126,21 @@ own name value l v others h = by (alike name l) (alike value v) refl refl
 
 -- ---- one list that may have changed
 
-pub ascending-put : (i : Id) (b : Bool) (new old : List Id) → new ≡ (if b then with_number i old else old) → AreAscending old → AreAscending new
-ascending-put i true new old e h = subst AreAscending (sym e) (AreAscending-with i old h)
-ascending-put i false new old e h = subst AreAscending (sym e) h
+pub ascending-insert_id : (i : Id) (b : Bool) (new old : List Id) → new ≡ (if b then with_id i old else old) → AreAscending old → AreAscending new
+ascending-insert_id i true new old e h = subst AreAscending (sym e) (AreAscending-with i old h)
+ascending-insert_id i false new old e h = subst AreAscending (sym e) h
 
-pub ascending-take : (i : Id) (b : Bool) (new old : List Id) → new ≡ (if b then without_number i old else old) → AreAscending old → AreAscending new
+pub ascending-take : (i : Id) (b : Bool) (new old : List Id) → new ≡ (if b then without_id i old else old) → AreAscending old → AreAscending new
 ascending-take i true new old e h = subst AreAscending (sym e) (AreAscending-without i old h)
 ascending-take i false new old e h = subst AreAscending (sym e) h
 
-pub member-put : (i : Id) (b s : Bool) (new old : List Id) (q : ℕ) → new ≡ (if b then with_number i old else old) → s ≡ b → has_number q new ≡ (((q == i.0) && s) || has_number q old)
-member-put i true s new old q e p = ap (has_number q) e ∙ has_number-with i old q ∙ ap (λ t. t || has_number q old) (sym (and-true (q == i.0)) ∙ ap (λ t. (q == i.0) && t) (sym p))
-member-put i false s new old q e p = ap (has_number q) e ∙ keeps-put (q == i.0) s (has_number q old) p
+pub member-insert_id : (i : Id) (b s : Bool) (new old : List Id) (q : ℕ) → new ≡ (if b then with_id i old else old) → s ≡ b → has_id q new ≡ (((q == i.0) && s) || has_id q old)
+member-insert_id i true s new old q e p = ap (has_id q) e ∙ has_id-with i old q ∙ ap (λ t. t || has_id q old) (sym (and-true (q == i.0)) ∙ ap (λ t. (q == i.0) && t) (sym p))
+member-insert_id i false s new old q e p = ap (has_id q) e ∙ keeps-insert_id (q == i.0) s (has_id q old) p
 
-pub member-take : (i : Id) (b s : Bool) (new old : List Id) (q : ℕ) → new ≡ (if b then without_number i old else old) → s ≡ b → AreAscending old → has_number q new ≡ (has_number q old && not ((q == i.0) && s))
-member-take i true s new old q e p h = ap (has_number q) e ∙ has_number-without i old q h ∙ ap (λ t. has_number q old && not t) (sym (and-true (q == i.0)) ∙ ap (λ t. (q == i.0) && t) (sym p))
-member-take i false s new old q e p h = ap (has_number q) e ∙ keeps-take (q == i.0) s (has_number q old) p
+pub member-take : (i : Id) (b s : Bool) (new old : List Id) (q : ℕ) → new ≡ (if b then without_id i old else old) → s ≡ b → AreAscending old → has_id q new ≡ (has_id q old && not ((q == i.0) && s))
+member-take i true s new old q e p h = ap (has_id q) e ∙ has_id-without i old q h ∙ ap (λ t. has_id q old && not t) (sym (and-true (q == i.0)) ∙ ap (λ t. (q == i.0) && t) (sym p))
+member-take i false s new old q e p h = ap (has_id q) e ∙ keeps-take (q == i.0) s (has_id q old) p
 
 -- an own pair of the first labels is one of all
 pub own-take : (l v : List ℕ) (ls others : List Label) (i : ℕ) → is_own l v (take i ls) others ≡ true → is_own l v ls others ≡ true

@@ -9,7 +9,7 @@ use Rattle.std.specs.Ordering.{nat_cmp, is_lt}
 use Rattle.std.specs.Prelude.{Err}
 use Rattle.std.specs.declared.cmp.Ordering.TheVariants.{Less, Equal, Greater}
 use Rattle.ts_sample.specs.declared.sample.Id.{Id}
-use Rattle.ts_index.specs.Numbers.{AreAscending, with_number, without_number}
+use Rattle.ts_index.specs.Numbers.{AreAscending, with_id, without_id}
 
 -- what holds of each holds at each index
 at : (P : Id → Type 0) (xs : List Id) (k : ℕ) (d : Id) → AllByRecursion P xs → k < length xs → P (get_or xs k d)
@@ -49,7 +49,7 @@ Gap-searched xs p i o found =
       above = λ k d l m. ranked (get_or xs k d).0 i.0 Greater (sym (split.1 k d l m));
     }
 
-placed : (xs : List Id) (p : ℕ) (i : Id) → p ≤ length xs → Gap xs p i → take p xs ++ i ∷ drop p xs ≡ with_number i xs
+placed : (xs : List Id) (p : ℕ) (i : Id) → p ≤ length xs → Gap xs p i → take p xs ++ i ∷ drop p xs ≡ with_id i xs
 placed [] zero i l h = refl
 placed [] (suc p) i l h = absurd (omega arith)
 placed (x ∷ xs) zero i l h =
@@ -59,10 +59,10 @@ placed (x ∷ xs) (suc p) i l h =
     let less : x.0 < i.0 = h.below 0 i (omega arith) in
     rw (lt-ltb x.0 i.0 less) (ap (λ r. x ∷ r) (placed xs p i (omega arith) (Gap-rest x xs p i h)))
 
-pub inserted : (xs : List Id) (p : ℕ) (i : Id) → AreAscending xs → p ≤ length xs → IsBinarySearchResult (λ y. nat_cmp y.0 i.0) xs (Err p) → insert xs p i ≡ with_number i xs
+pub inserted : (xs : List Id) (p : ℕ) (i : Id) → AreAscending xs → p ≤ length xs → IsBinarySearchResult (λ y. nat_cmp y.0 i.0) xs (Err p) → insert xs p i ≡ with_id i xs
 inserted xs p i o l found = placed xs p i l (Gap-searched xs p i o found)
 
-none_there : (xs : List Id) (p : ℕ) (i : Id) → Gap xs p i → without_number i xs ≡ xs
+none_there : (xs : List Id) (p : ℕ) (i : Id) → Gap xs p i → without_id i xs ≡ xs
 none_there [] p i h = refl
 none_there (x ∷ xs) zero i h =
     let less : i.0 < x.0 = h.above 0 i (omega arith) (omega arith) in
@@ -71,19 +71,19 @@ none_there (x ∷ xs) (suc p) i h =
     let less : x.0 < i.0 = h.below 0 i (omega arith) in
     rw (ne_eqb x.0 i.0 (λ e. absurd (omega arith))) (ap (λ r. x ∷ r) (none_there xs p i (Gap-rest x xs p i h)))
 
-pub not_there : (xs : List Id) (p : ℕ) (i : Id) → AreAscending xs → IsBinarySearchResult (λ y. nat_cmp y.0 i.0) xs (Err p) → without_number i xs ≡ xs
+pub not_there : (xs : List Id) (p : ℕ) (i : Id) → AreAscending xs → IsBinarySearchResult (λ y. nat_cmp y.0 i.0) xs (Err p) → without_id i xs ≡ xs
 not_there xs p i o found = none_there xs p i (Gap-searched xs p i o found)
 
 -- ---- where it is there
 
-stays : (xs : List Id) (p : ℕ) (i : Id) → AreAscending xs → p < length xs → (get_or xs p i).0 ≡ i.0 → with_number i xs ≡ xs
+stays : (xs : List Id) (p : ℕ) (i : Id) → AreAscending xs → p < length xs → (get_or xs p i).0 ≡ i.0 → with_id i xs ≡ xs
 stays [] p i o l e = absurd (omega arith)
 stays (x ∷ xs) zero i o l e = rw (le-ltb x.0 i.0 (omega arith), eq-eqb x.0 i.0 e) refl
 stays (x ∷ xs) (suc p) i o l e =
     let less : x.0 < (get_or xs p i).0 = at (λ y. x.0 < y.0) xs p i o.0 (omega arith) in
     rw (lt-ltb x.0 i.0 (omega arith)) (ap (λ r. x ∷ r) (stays xs p i o.1 (omega arith) e))
 
-goes : (xs : List Id) (p : ℕ) (i : Id) → AreAscending xs → p < length xs → (get_or xs p i).0 ≡ i.0 → remove xs p ≡ without_number i xs
+goes : (xs : List Id) (p : ℕ) (i : Id) → AreAscending xs → p < length xs → (get_or xs p i).0 ≡ i.0 → remove xs p ≡ without_id i xs
 goes [] p i o l e = absurd (omega arith)
 goes (x ∷ xs) zero i o l e = rw (eq-eqb x.0 i.0 e) refl
 goes (x ∷ xs) (suc p) i o l e =
@@ -93,8 +93,8 @@ goes (x ∷ xs) (suc p) i o l e =
 found_there : (xs : List Id) (p : ℕ) (i : Id) → HoldsAt (λ y. nat_cmp y.0 i.0 ≡ Equal) xs p → (get_or xs p i).0 ≡ i.0
 found_there xs p i found = ranked (get_or xs p i).0 i.0 Equal (sym (found i))
 
-pub already : (xs : List Id) (p : ℕ) (i : Id) → AreAscending xs → p < length xs → HoldsAt (λ y. nat_cmp y.0 i.0 ≡ Equal) xs p → with_number i xs ≡ xs
+pub already : (xs : List Id) (p : ℕ) (i : Id) → AreAscending xs → p < length xs → HoldsAt (λ y. nat_cmp y.0 i.0 ≡ Equal) xs p → with_id i xs ≡ xs
 already xs p i o l found = stays xs p i o l (found_there xs p i found)
 
-pub removed : (xs : List Id) (p : ℕ) (i : Id) → AreAscending xs → p < length xs → HoldsAt (λ y. nat_cmp y.0 i.0 ≡ Equal) xs p → remove xs p ≡ without_number i xs
+pub removed : (xs : List Id) (p : ℕ) (i : Id) → AreAscending xs → p < length xs → HoldsAt (λ y. nat_cmp y.0 i.0 ≡ Equal) xs p → remove xs p ≡ without_id i xs
 removed xs p i o l found = goes xs p i o l (found_there xs p i found)

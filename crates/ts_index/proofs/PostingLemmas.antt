@@ -8,7 +8,7 @@ use Rattle.std.proofs.lemmas.Map.Views.{tells_apart}
 use Rattle.std.specs.Prelude.{Result, Ok, Err, OnOk, OnErr}
 use Rattle.std.specs.Map.{lookup}
 use Rattle.ts_sample.specs.declared.sample.Id.{Id}
-use Rattle.ts_index.specs.Postings.{alike, numbers_in, by_value, value_in, posting_in}
+use Rattle.ts_index.specs.Postings.{alike, ids_in, by_value, value_in, posting_in}
 
 -- words that a map takes for one are the same
 pub alike-same : (one other : List ℕ) → alike one other ≡ true → one ≡ other
@@ -31,9 +31,9 @@ module _ {Z : Type 0} where
   pub value-changed : (f : List Id → List Id) (m n : BTreeMap (List ℕ) (Vec Id Z)) (value : List ℕ) (list : Vec Id Z)
       → UpdatesBy (slice_cmp nat_cmp) (slice_cmp nat_cmp value) m n (Some list) → list.items ≡ f (by_value value m)
       → (v : List ℕ) → by_value v n ≡ (if alike value v then f (by_value v m) else by_value v m)
-  value-changed f m n value list h e v = ap numbers_in (h.0 v) ∙ by (alike value v) refl
+  value-changed f m n value list h e v = ap ids_in (h.0 v) ∙ by (alike value v) refl
     where
-      by : (b : Bool) → alike value v ≡ b → numbers_in (cond b (Some list) (get_by (slice_cmp nat_cmp v) m)) ≡ (if b then f (by_value v m) else by_value v m)
+      by : (b : Bool) → alike value v ≡ b → ids_in (cond b (Some list) (get_by (slice_cmp nat_cmp v) m)) ≡ (if b then f (by_value v m) else by_value v m)
       by true p = e ∙ ap (λ w. f (by_value w m)) (alike-same value v p)
       by false p = refl
 
@@ -51,9 +51,9 @@ module _ {Z : Type 0} where
   pub value-gone : (m n : BTreeMap (List ℕ) (Vec Id Z)) (value : List ℕ)
       → UpdatesBy (slice_cmp nat_cmp) (slice_cmp nat_cmp value) m n None → by_value value m ≡ []
       → (v : List ℕ) → by_value v n ≡ by_value v m
-  value-gone m n value h e v = ap numbers_in (h.0 v) ∙ by (alike value v) refl
+  value-gone m n value h e v = ap ids_in (h.0 v) ∙ by (alike value v) refl
     where
-      by : (b : Bool) → alike value v ≡ b → numbers_in (cond b None (get_by (slice_cmp nat_cmp v) m)) ≡ by_value v m
+      by : (b : Bool) → alike value v ≡ b → ids_in (cond b None (get_by (slice_cmp nat_cmp v) m)) ≡ by_value v m
       by true p = sym e ∙ ap (λ w. by_value w m) (alike-same value v p)
       by false p = refl
 
@@ -117,4 +117,4 @@ module _ {Z : Type 0} where
 
   -- a map without entries has no lists
   pub by_value-none : (m : BTreeMap (List ℕ) (Vec Id Z)) → m.entries ≡ [] → (v : List ℕ) → by_value v m ≡ []
-  by_value-none m e v = ap (λ es. numbers_in (lookup (is_at (slice_cmp nat_cmp v)) es)) e
+  by_value-none m e v = ap (λ es. ids_in (lookup (is_at (slice_cmp nat_cmp v)) es)) e

@@ -1,10 +1,10 @@
 -- The values of a filter, one after another.
 use Rattle.std.proofs.Common.{◌≡◌, ◌<◌, Bool, true, false, length, get_or, arith, ℕ, zero, suc, ◌+◌, add-one, List, [], ◌∷◌, ◌++◌, take, drop, slice_get, Some, refl, ap, if◌then◌else◌}
 use Rattle.ts_spec.specs.Key.{Key}
-use Rattle.ts_spec.specs.Filter.{is_among}
+use Rattle.ts_spec.specs.Filter.{is_one_of}
 use Rattle.ts_sample.specs.declared.sample.Id.{Id}
-use Rattle.ts_index.specs.Index.{Labelled, numbers_where, has_pair}
-use Rattle.ts_index.specs.Candidates.{listed_by}
+use Rattle.ts_index.specs.Index.{Labelled, ids_where, has_pair}
+use Rattle.ts_index.specs.Candidates.{posting_union}
 
 rest_of : (vs : List Key) (k : ℕ) (v : Key) → slice_get vs k ≡ Some v → drop k vs ≡ v ∷ drop (suc k) vs
 rest_of [] k v e = cc
@@ -21,10 +21,10 @@ so_far (x ∷ vs) zero v e =
 so_far (x ∷ vs) (suc k) v e = ap (λ r. x ∷ r) (so_far vs k v e)
 
 -- the list of the next value, and those of the values after it
-pub listed_by-next : (label : List ℕ) (vs : List Key) (k : ℕ) (v : Key) (es : Labelled) → slice_get vs k ≡ Some v
-    → listed_by label (take k vs) (drop k vs) es ≡ (if is_among (take k vs) v then [] else numbers_where (has_pair label v) es) ++ listed_by label (take (k + 1) vs) (drop (k + 1) vs) es
-listed_by-next label vs k v es e =
-    rw (add-one, so_far vs k v e) (ap (λ r. listed_by label (take k vs) r es) (rest_of vs k v e))
+pub posting_union-next : (label : List ℕ) (vs : List Key) (k : ℕ) (v : Key) (es : Labelled) → slice_get vs k ≡ Some v
+    → posting_union label (take k vs) (drop k vs) es ≡ (if is_one_of (take k vs) v then [] else ids_where (has_pair label v) es) ++ posting_union label (take (k + 1) vs) (drop (k + 1) vs) es
+posting_union-next label vs k v es e =
+    rw (add-one, so_far vs k v e) (ap (λ r. posting_union label (take k vs) r es) (rest_of vs k v e))
 
 -- the value at an index
 pub value_at : (vs : List Key) (k : ℕ) (v d : Key) → slice_get vs k ≡ Some v → get_or vs k d ≡ v

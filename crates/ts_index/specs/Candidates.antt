@@ -1,25 +1,25 @@
 -- The ids that have one of several values.
 use Rattle.std.specs.Prelude.{◌≡◌, ℕ, false, true, ⊤, if◌then◌else◌, List, [], ◌∷◌, ◌++◌, IsSome, Some}
-use Rattle.ts_spec.specs.Filter.{Filter, is_among, all_hold}
+use Rattle.ts_spec.specs.Filter.{Filter, is_one_of, all_hold}
 use Rattle.ts_spec.specs.State.{Label}
 use Rattle.ts_sample.specs.declared.sample.Id.{Id}
-use Rattle.ts_index.specs.Index.{Labelled, labels_of, numbers_where, has_pair}
-use Rattle.ts_index.specs.Numbers.{has_number}
+use Rattle.ts_index.specs.Index.{Labelled, labels_of, ids_where, has_pair}
+use Rattle.ts_index.specs.Numbers.{has_id}
 
 -- the posting lists of these values, one after another; a repeated value is skipped
-abbrev pub listed_by : (label : List ℕ) → (seen values : List (List ℕ)) → Labelled → List Id
-listed_by label seen [] es = []
-listed_by label seen (v ∷ vs) es = (if is_among seen v then [] else numbers_where (has_pair label v) es) ++ listed_by label (seen ++ v ∷ []) vs es
+abbrev pub posting_union : (label : List ℕ) → (seen values : List (List ℕ)) → Labelled → List Id
+posting_union label seen [] es = []
+posting_union label seen (v ∷ vs) es = (if is_one_of seen v then [] else ids_where (has_pair label v) es) ++ posting_union label (seen ++ v ∷ []) vs es
 
 -- all ids differ
 abbrev pub AreApart : List Id → Type 0
 AreApart [] = ⊤
-AreApart (i ∷ is) = (has_number i.0 is ≡ false) × AreApart is
+AreApart (i ∷ is) = (has_id i.0 is ≡ false) × AreApart is
 
 -- each id is in the index
 abbrev pub AreLive : Labelled → List Id → Type 0
-AreLive es is = (q : ℕ) → has_number q is ≡ true → IsSome (labels_of q es)
+AreLive es is = (q : ℕ) → has_id q is ≡ true → IsSome (labels_of q es)
 
 -- these include each id whose labels pass all filters
 abbrev pub Covers : Labelled → List Filter → List Id → Type 0
-Covers es filters is = (q : ℕ) (labels : List Label) → labels_of q es ≡ Some labels → all_hold filters labels ≡ true → has_number q is ≡ true
+Covers es filters is = (q : ℕ) (labels : List Label) → labels_of q es ≡ Some labels → all_hold filters labels ≡ true → has_id q is ≡ true

@@ -21,9 +21,9 @@ pub record Relabels (id : Id) (labels : Option (List Label)) (old new : Labelled
   pub others : (i : ℕ) → i ≢ id.0 → labels_of i new ≡ labels_of i old
 
 -- the ids whose labels pass a test, in ascending order
-abbrev pub numbers_where : (List Label → Bool) → Labelled → List Id
-numbers_where test [] = []
-numbers_where test (e ∷ es) = if test e.1 then record { 0 = e.0 } ∷ numbers_where test es else numbers_where test es
+abbrev pub ids_where : (List Label → Bool) → Labelled → List Id
+ids_where test [] = []
+ids_where test (e ∷ es) = if test e.1 then record { 0 = e.0 } ∷ ids_where test es else ids_where test es
 
 -- whether the labels contain this name with this value
 abbrev pub has_pair : (name value : List ℕ) → List Label → Bool

@@ -5,5 +5,5 @@ pub mod Postings
 pub mod Pairs
 pub mod Candidates
 pub mod Source
-pub mod Narrowest
+pub mod MostSelective
 pub mod Selecting

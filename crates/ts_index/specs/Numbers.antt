@@ -16,8 +16,8 @@ AreAscending [] = ⊤
 AreAscending (i ∷ is) = AllByRecursion (λ j. i.0 < j.0) is × AreAscending is
 
 -- whether the list contains an id
-abbrev pub has_number : ℕ → List Id → Bool
-has_number q is = list_any (λ i. q == i.0) is
+abbrev pub has_id : ℕ → List Id → Bool
+has_id q is = list_any (λ i. q == i.0) is
 
 -- whether there are labels and they pass a test
 abbrev pub pass : (List Label → Bool) → Option (List Label) → Bool
@@ -25,11 +25,11 @@ pass test None = false
 pass test (Some labels) = test labels
 
 -- the list with an id inserted in order
-abbrev pub with_number : Id → List Id → List Id
-with_number i [] = i ∷ []
-with_number i (x ∷ xs) = if nat_lt x.0 i.0 then x ∷ with_number i xs else if x.0 == i.0 then x ∷ xs else i ∷ x ∷ xs
+abbrev pub with_id : Id → List Id → List Id
+with_id i [] = i ∷ []
+with_id i (x ∷ xs) = if nat_lt x.0 i.0 then x ∷ with_id i xs else if x.0 == i.0 then x ∷ xs else i ∷ x ∷ xs
 
 -- the list without an id
-abbrev pub without_number : Id → List Id → List Id
-without_number i [] = []
-without_number i (x ∷ xs) = if x.0 == i.0 then xs else x ∷ without_number i xs
+abbrev pub without_id : Id → List Id → List Id
+without_id i [] = []
+without_id i (x ∷ xs) = if x.0 == i.0 then xs else x ∷ without_id i xs

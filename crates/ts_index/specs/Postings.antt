@@ -4,7 +4,7 @@ use Rattle.std.specs.BTreeMap.{BTreeMap, get_by, is_at}
 use Rattle.std.specs.Cmp.Lexicographic.{slice_cmp}
 use Rattle.std.specs.Ordering.{nat_cmp}
 use Rattle.ts_sample.specs.declared.sample.Id.{Id}
-use Rattle.ts_index.specs.Index.{Labelled, numbers_where, has_pair}
+use Rattle.ts_index.specs.Index.{Labelled, ids_where, has_pair}
 
 -- whether a map treats the two as the same key
 abbrev pub alike : (one other : List ℕ) → Bool
@@ -12,13 +12,13 @@ alike one other = is_at (slice_cmp nat_cmp one) other
 
 module _ {Z : Type 0} where
   -- the ids of a list, if there is one
-  abbrev pub numbers_in : Option (Vec Id Z) → List Id
-  numbers_in None = []
-  numbers_in (Some list) = list.items
+  abbrev pub ids_in : Option (Vec Id Z) → List Id
+  ids_in None = []
+  ids_in (Some list) = list.items
 
   -- the posting list of a value
   abbrev pub by_value : (value : List ℕ) → BTreeMap (List ℕ) (Vec Id Z) → List Id
-  by_value value values = numbers_in (get_by (slice_cmp nat_cmp value) values)
+  by_value value values = ids_in (get_by (slice_cmp nat_cmp value) values)
 
   -- the same if there may be no lists
   abbrev pub value_in : (value : List ℕ) → Option (BTreeMap (List ℕ) (Vec Id Z)) → List Id
@@ -31,4 +31,4 @@ module _ {Z : Type 0} where
 
   -- each posting list has exactly the ids that have its label with its value
   abbrev pub ArePosted : Labelled → BTreeMap (List ℕ) (BTreeMap (List ℕ) (Vec Id Z)) → Type 0
-  ArePosted es lists = (l v : List ℕ) → posting_in l v lists ≡ numbers_where (has_pair l v) es
+  ArePosted es lists = (l v : List ℕ) → posting_in l v lists ≡ ids_where (has_pair l v) es

@@ -9,6 +9,6 @@ abbrev pub as_id : ℕ → Id
 as_id n = record { 0 = n }
 
 -- the remaining ids
-abbrev pub numbers_left : Source → List Id
-numbers_left (All numbers) = map as_id numbers
-numbers_left (ByValue numbers) = numbers
+abbrev pub ids_left : Source → List Id
+ids_left (All numbers) = map as_id numbers
+ids_left (ByValue numbers) = numbers

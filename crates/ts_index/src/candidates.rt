@@ -2,13 +2,13 @@
 ghost use Rattle.std.specs.Prelude.{◌≡◌, ◌≤◌, [], length, map};
 ghost use Rattle.std.specs.Iterator.{YieldsFirst, item_count};
 ghost use Rattle.std.specs.Map.{keys_of};
-ghost use Rattle.ts_labels.specs.Filter.{label_of, values_wanted};
+ghost use Rattle.ts_labels.specs.Filter.{label_of, required_values};
 ghost use Rattle.ts_index.specs.Bounds.{fewest};
-ghost use Rattle.ts_index.specs.Candidates.{listed_by, AreApart, AreLive, Covers};
+ghost use Rattle.ts_index.specs.Candidates.{posting_union, AreApart, AreLive, Covers};
 ghost use Rattle.ts_index.specs.Source.{as_id};
 
 use crate::index::Index;
-use crate::listed::Listed;
+use crate::posting_list::PostingList;
 use std::collections::btree_map::Keys;
 use std::marker::Model;
 use ts_labels::{Filter, Labels};
@@ -20,7 +20,7 @@ enum Source<'a> {
     // All series.
     All(Keys<'a, usize, Labels>),
     // The series that have one of the values that a filter requires.
-    ByValue(Listed<'a>),
+    ByValue(PostingList<'a>),
 }
 
 /// An iterator over candidate series ids. Contracts see it as the list of the remaining ids.
@@ -35,9 +35,9 @@ impl<'a> Model for Candidates<'a> {
 
     ghost Value = { List Number };
 
-    ghost use Rattle.ts_index.specs.Source.{numbers_left};
+    ghost use Rattle.ts_index.specs.Source.{ids_left};
 
-    ghost view = { λ c. numbers_left c.source };
+    ghost view = { λ c. ids_left c.source };
 }
 
 impl<'a> Iterator for Candidates<'a> {
@@ -68,7 +68,7 @@ impl Index {
         ensures few { length result ≤ fewest self.now filters.now }
     {
         self.known();
-        match self.narrowest(filters) {
+        match self.most_selective(filters) {
             Some(filter) => by_value(self, filter),
             None => all(self),
         }
@@ -77,10 +77,10 @@ impl Index {
 
 // The series that have one of the values that the filter requires.
 pub(crate) fn by_value<'a>(index: &'a Index, filter: &'a Filter) -> Candidates<'a>
-    ensures { result ≡ listed_by (label_of filter.now) [] (values_wanted filter.now) index.now }
+    ensures { result ≡ posting_union (label_of filter.now) [] (required_values filter.now) index.now }
 {
     Candidates {
-        source: Source::ByValue(Listed::new(index, filter)),
+        source: Source::ByValue(PostingList::new(index, filter)),
     }
 }
 

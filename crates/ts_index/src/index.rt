@@ -1,10 +1,10 @@
 // The index and its updates.
 ghost use Rattle.std.specs.Prelude.{◌≡◌, [], None, Some, IsSome, OnOk, OnErr};
-ghost use Rattle.ts_index.specs.Index.{Relabels, labels_of, numbers_where, has_pair};
+ghost use Rattle.ts_index.specs.Index.{Relabels, labels_of, ids_where, has_pair};
 ghost use Rattle.ts_index.specs.Numbers.{AreInOrder};
 
-use crate::lists::{Lists, listed};
-use crate::pairs::{put_pairs, take_pairs};
+use crate::lists::{Lists, posting_list};
+use crate::pairs::{insert_pairs, remove_pairs};
 use std::alloc::{AllocError, Global};
 use std::collections::BTreeMap;
 use std::marker::Model;
@@ -60,11 +60,11 @@ impl Index {
         self.known();
         let shared = labels.copy()?;
         let none = Labels::new(self.alloc);
-        put_pairs(self.alloc, &mut self.lists, id, labels, &none)?;
+        insert_pairs(self.alloc, &mut self.lists, id, labels, &none)?;
         match self.labels.insert(id.0, shared) {
             Ok(_) => Ok(()),
             Err(_) => {
-                take_pairs(&mut self.lists, id, labels, labels.len(), &none);
+                remove_pairs(&mut self.lists, id, labels, labels.len(), &none);
                 Err(AllocError)
             }
         }
@@ -77,7 +77,7 @@ impl Index {
     {
         self.known();
         let none = Labels::new(self.alloc);
-        take_pairs(&mut self.lists, id, labels, labels.len(), &none);
+        remove_pairs(&mut self.lists, id, labels, labels.len(), &none);
         let _labels = self.labels.remove(&id.0);
     }
 
@@ -89,17 +89,17 @@ impl Index {
     {
         self.known();
         let shared = new.copy()?;
-        put_pairs(self.alloc, &mut self.lists, id, new, old)?;
-        take_pairs(&mut self.lists, id, old, old.len(), new);
+        insert_pairs(self.alloc, &mut self.lists, id, new, old)?;
+        remove_pairs(&mut self.lists, id, old, old.len(), new);
         swap(&mut self.labels, id, shared);
         Ok(())
     }
 
     /// The posting list of a label and value: the ids in ascending order. Allocates nothing.
     pub fn posting(&self, label: &Word, value: &Word) -> &[Id]
-        ensures { result.now ≡ numbers_where (has_pair label.now value.now) self.now }
+        ensures { result.now ≡ ids_where (has_pair label.now value.now) self.now }
     {
-        listed(&self.lists, label, value)
+        posting_list(&self.lists, label, value)
     }
 }
 

@@ -3,10 +3,10 @@
 
 mod candidates;
 mod index;
-mod listed;
 mod lists;
-mod narrowest;
+mod most_selective;
 mod pairs;
+mod posting_list;
 mod select;
 
 pub use candidates::Candidates;

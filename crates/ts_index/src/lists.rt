@@ -1,6 +1,6 @@
 // Posting lists by label and value.
 ghost use Rattle.std.specs.Prelude.{◌≡◌, [], ℕ, List, ◌&&◌, if◌then◌else◌, IsTrue, OnOk, OnErr};
-ghost use Rattle.ts_index.specs.Numbers.{AreAscending, with_number, without_number};
+ghost use Rattle.ts_index.specs.Numbers.{AreAscending, with_id, without_id};
 ghost use Rattle.ts_index.specs.Postings.{alike, posting_in, by_value};
 
 use std::alloc::{AllocError, Global};
@@ -12,7 +12,7 @@ use ts_sample::Id;
 pub(crate) type Lists = BTreeMap<Word, Values>;
 
 // The posting list of a label and value.
-pub(crate) fn listed<'a>(lists: &'a Lists, label: &Word, value: &Word) -> &'a [Id]
+pub(crate) fn posting_list<'a>(lists: &'a Lists, label: &Word, value: &Word) -> &'a [Id]
     ensures { result.now ≡ posting_in label.now value.now lists.now }
 {
     let Some(values) = lists.get(label) else {
@@ -25,7 +25,7 @@ pub(crate) fn listed<'a>(lists: &'a Lists, label: &Word, value: &Word) -> &'a [I
 }
 
 // Adds an id to the posting list of a label and value.
-pub(crate) fn put_pair(
+pub(crate) fn insert_pair(
     alloc: Global,
     lists: &mut Lists,
     label: &Word,
@@ -35,15 +35,15 @@ pub(crate) fn put_pair(
     requires { AreAscending (posting_in label.now value.now lists.old) }
     ensures ok { OnOk result ((l v : List ℕ)
         → posting_in l v lists.new
-        ≡ (if alike label.now l && alike value.now v then with_number id (posting_in l v lists.old) else posting_in l v
+        ≡ (if alike label.now l && alike value.now v then with_id id (posting_in l v lists.old) else posting_in l v
         lists.old)) }
     ensures err { OnErr result ((l v : List ℕ) → posting_in l v lists.new ≡ posting_in l v lists.old) }
 {
     match lists.get_mut(label) {
-        Some(values) => put_value(alloc, values, value, id),
+        Some(values) => insert_value(alloc, values, value, id),
         None => {
             let mut values = BTreeMap::new(alloc);
-            put_value(alloc, &mut values, value, id)?;
+            insert_value(alloc, &mut values, value, id)?;
             lists.insert(label.copy()?, values)?;
             Ok(())
         }
@@ -51,30 +51,30 @@ pub(crate) fn put_pair(
 }
 
 // Removes an id from the posting list of a label and value. Drops the label once it has no posting lists left.
-pub(crate) fn take_pair(lists: &mut Lists, label: &Word, value: &Word, id: Id)
+pub(crate) fn remove_pair(lists: &mut Lists, label: &Word, value: &Word, id: Id)
     requires { AreAscending (posting_in label.now value.now lists.old) }
     ensures { (l v : List ℕ)
         → posting_in l v lists.new
-        ≡ (if alike label.now l && alike value.now v then without_number id (posting_in l v lists.old) else posting_in l
+        ≡ (if alike label.now l && alike value.now v then without_id id (posting_in l v lists.old) else posting_in l
         v lists.old) }
 {
-    if take_labelled(lists, label, value, id) {
+    if remove_from_label(lists, label, value, id) {
         let _empty = lists.remove(label);
     }
 }
 
 // Removes an id from the posting list of a label and value. Returns `true` if the label has no posting lists left.
-fn take_labelled(lists: &mut Lists, label: &Word, value: &Word, id: Id) -> bool
+fn remove_from_label(lists: &mut Lists, label: &Word, value: &Word, id: Id) -> bool
     requires { AreAscending (posting_in label.now value.now lists.old) }
     ensures lists { (l v : List ℕ)
         → posting_in l v lists.new
-        ≡ (if alike label.now l && alike value.now v then without_number id (posting_in l v lists.old) else posting_in l
+        ≡ (if alike label.now l && alike value.now v then without_id id (posting_in l v lists.old) else posting_in l
         v lists.old) }
     ensures empty { IsTrue result → (v : List ℕ) → posting_in label.now v lists.new ≡ [] }
 {
     match lists.get_mut(label) {
         Some(values) => {
-            take_value(values, value, id);
+            remove_value(values, value, id);
             values.is_empty()
         }
         None => false,
@@ -84,7 +84,7 @@ fn take_labelled(lists: &mut Lists, label: &Word, value: &Word, id: Id) -> bool
 pub(crate) type Values = BTreeMap<Word, Vec<Id>>;
 
 // Adds an id to the posting list of a value.
-pub(crate) fn put_value(
+pub(crate) fn insert_value(
     alloc: Global,
     values: &mut Values,
     value: &Word,
@@ -93,11 +93,11 @@ pub(crate) fn put_value(
     requires { AreAscending (by_value value.now values.old) }
     ensures ok { OnOk result ((v : List ℕ)
         → by_value v values.new
-        ≡ (if alike value.now v then with_number id (by_value v values.old) else by_value v values.old)) }
+        ≡ (if alike value.now v then with_id id (by_value v values.old) else by_value v values.old)) }
     ensures err { OnErr result ((v : List ℕ) → by_value v values.new ≡ by_value v values.old) }
 {
     match values.get_mut(value) {
-        Some(list) => put(list, id),
+        Some(list) => insert_id(list, id),
         None => {
             let mut list = Vec::new(alloc);
             list.push(id)?;
@@ -108,23 +108,23 @@ pub(crate) fn put_value(
 }
 
 // Removes an id from the posting list of a value. Drops the list once it is empty.
-pub(crate) fn take_value(values: &mut Values, value: &Word, id: Id)
+pub(crate) fn remove_value(values: &mut Values, value: &Word, id: Id)
     requires { AreAscending (by_value value.now values.old) }
     ensures { (v : List ℕ)
         → by_value v values.new
-        ≡ (if alike value.now v then without_number id (by_value v values.old) else by_value v values.old) }
+        ≡ (if alike value.now v then without_id id (by_value v values.old) else by_value v values.old) }
 {
-    if take_listed(values, value, id) {
+    if remove_from_posting(values, value, id) {
         let _empty = values.remove(value);
     }
 }
 
 // Removes an id from the posting list of a value. Returns `true` if the list is empty now.
-fn take_listed(values: &mut Values, value: &Word, id: Id) -> bool
+fn remove_from_posting(values: &mut Values, value: &Word, id: Id) -> bool
     requires { AreAscending (by_value value.now values.old) }
     ensures lists { (v : List ℕ)
         → by_value v values.new
-        ≡ (if alike value.now v then without_number id (by_value v values.old) else by_value v values.old) }
+        ≡ (if alike value.now v then without_id id (by_value v values.old) else by_value v values.old) }
     ensures empty { IsTrue result → by_value value.now values.new ≡ [] }
 {
     match values.get_mut(value) {
@@ -138,9 +138,9 @@ fn take_listed(values: &mut Values, value: &Word, id: Id) -> bool
 
 // Inserts an id into a sorted list.
 #[tactic(auto, using(crate::proofs::PlaceLemmas::inserted, crate::proofs::PlaceLemmas::already))]
-pub(crate) fn put(list: &mut Vec<Id>, id: Id) -> Result<(), AllocError>
+pub(crate) fn insert_id(list: &mut Vec<Id>, id: Id) -> Result<(), AllocError>
     requires { AreAscending list.old.items }
-    ensures ok { OnOk result (list.new.items ≡ with_number id list.old.items) }
+    ensures ok { OnOk result (list.new.items ≡ with_id id list.old.items) }
     ensures err { OnErr result (list.new.items ≡ list.old.items) }
 {
     if let Err(place) = list.binary_search(&id) {
@@ -153,7 +153,7 @@ pub(crate) fn put(list: &mut Vec<Id>, id: Id) -> Result<(), AllocError>
 #[tactic(auto, using(crate::proofs::PlaceLemmas::removed, crate::proofs::PlaceLemmas::not_there))]
 pub(crate) fn take(list: &mut Vec<Id>, id: Id)
     requires { AreAscending list.old.items }
-    ensures { list.new.items ≡ without_number id list.old.items }
+    ensures { list.new.items ≡ without_id id list.old.items }
 {
     if let Ok(place) = list.binary_search(&id) {
         let _id = list.remove(place);

@@ -3,7 +3,7 @@ ghost use Rattle.std.specs.Prelude.{◌≡◌, ◌+◌, ◌*◌, ◌≤◌, true
 ghost use Rattle.std.specs.Prelude.{OnErr};
 ghost use Rattle.ts_spec.specs.Filter.{all_hold, is_positive};
 ghost use Rattle.ts_index.specs.Bounds.{fewest, selection_steps};
-ghost use Rattle.ts_index.specs.Index.{labels_of, numbers_where};
+ghost use Rattle.ts_index.specs.Index.{labels_of, ids_where};
 ghost use Rattle.ts_index.specs.Numbers.{pass};
 ghost use Rattle.ts_index.specs.Selecting.{AreSelected};
 
@@ -21,7 +21,7 @@ impl Index {
         filters: &[Filter],
         steps: &mut Steps<L>,
     ) -> Result<Vec<Id>, AllocError>
-        ensures selected { IfOk result (λ ids. ids.items ≡ numbers_where (all_hold filters.now) self.now) }
+        ensures selected { IfOk result (λ ids. ids.items ≡ ids_where (all_hold filters.now) self.now) }
         ensures unspent { OnErr result (steps.new ≡ steps.old) }
         ensures steps { steps.new ≤ steps.old + selection_steps self.now filters.now }
     {
@@ -41,13 +41,13 @@ impl Index {
         ensures steps { steps.new ≤ steps.old + selection_steps self.now filters.now }
     {
         match only(filters) {
-            Some(filter) => self.take_wanted(filter, ids),
-            None => self.take_passing(filters, ids, steps),
+            Some(filter) => self.collect_matching(filter, ids),
+            None => self.collect_passing(filters, ids, steps),
         }
     }
 
     // Collects the series that have a value that the filter requires. They pass without a test.
-    fn take_wanted(&self, filter: &Filter, ids: &mut Vec<Id>)
+    fn collect_matching(&self, filter: &Filter, ids: &mut Vec<Id>)
         requires positive { is_positive filter.now ≡ true }
         requires none { ids.old.items ≡ [] }
         requires len { vec_len ids.old ≡ 0 }
@@ -61,7 +61,12 @@ impl Index {
     }
 
     // Collects the candidates that pass all filters.
-    fn take_passing<L: Ledger>(&self, filters: &[Filter], ids: &mut Vec<Id>, steps: &mut Steps<L>)
+    fn collect_passing<L: Ledger>(
+        &self,
+        filters: &[Filter],
+        ids: &mut Vec<Id>,
+        steps: &mut Steps<L>,
+    )
         requires none { ids.old.items ≡ [] }
         requires len { vec_len ids.old ≡ 0 }
         requires room { fewest self.now filters.now ≤ vec_capacity ids.old }

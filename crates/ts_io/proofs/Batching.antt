@@ -28,9 +28,9 @@ pub holds_gathered : (sent : List ℕ → Type 0) (waiting more bytes : List ℕ
 holds_gathered sent waiting more bytes joined = record { each = λ w had. (had.0, had.1, ap (λ (l : List ℕ). l ++ bytes) had.2 ∙ append_assoc had.0 waiting bytes ∙ ap (λ (l : List ℕ). had.0 ++ l) (sym joined)) }
 
 -- a write while the queue is empty
-pub write_straight : {E : Type 0} (old new : List ℕ → Type 0) (waiting bytes : List ℕ) (r : Result ℕ E) → waiting ≡ [] → WriteGrows old new r bytes → WriteGrows (Holds old waiting) (Holds new waiting) r bytes
-write_straight old new waiting bytes (Ok n) none p = holds_straight old new waiting (take n bytes) none p
-write_straight old new waiting bytes (Err e) none p = holds_still old new waiting p
+pub write_directly : {E : Type 0} (old new : List ℕ → Type 0) (waiting bytes : List ℕ) (r : Result ℕ E) → waiting ≡ [] → WriteGrows old new r bytes → WriteGrows (Holds old waiting) (Holds new waiting) r bytes
+write_directly old new waiting bytes (Ok n) none p = holds_straight old new waiting (take n bytes) none p
+write_directly old new waiting bytes (Err e) none p = holds_still old new waiting p
 
 -- a write after a call that wrote nothing
 pub write_after : {E : Type 0} (old mid new : List ℕ → Type 0) (bytes : List ℕ) (r : Result ℕ E) → Grows old mid [] → WriteGrows mid new r bytes → WriteGrows old new r bytes

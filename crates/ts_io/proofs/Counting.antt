@@ -1,13 +1,13 @@
 -- How the counts of bytes grow.
 use Rattle.std.proofs.Common.{◌≡◌, ℕ, ◌+◌, ◌-◌, ◌^◌, ◌≤◌, min, slice_index_or, List, [], ◌∷◌, ◌++◌, length, length-append, Option, None, Some, refl, sym, ◌∙◌, ap, arith}
 use Rattle.std.specs.List.{last_or}
-use Rattle.ts_io.specs.Counts.{Counts, counts_of, marks_after}
+use Rattle.ts_io.specs.Counts.{Counts, counts_of, error_marks_after}
 use Rattle.ts_io.specs.Sinks.{Grows}
 
 -- the marks of a prefix, and of the rest after its last byte
-marks_append : (before : Option ℕ) (xs ys : List ℕ) → marks_after before (xs ++ ys) ≡ marks_after before xs + marks_after (last_or before xs) ys
+marks_append : (before : Option ℕ) (xs ys : List ℕ) → error_marks_after before (xs ++ ys) ≡ error_marks_after before xs + error_marks_after (last_or before xs) ys
 marks_append before [] ys = omega arith
-marks_append before (x ∷ xs) ys = let rest : marks_after (Some x) (xs ++ ys) ≡ marks_after (Some x) xs + marks_after (last_or (Some x) xs) ys = marks_append (Some x) xs ys in omega arith
+marks_append before (x ∷ xs) ys = let rest : error_marks_after (Some x) (xs ++ ys) ≡ error_marks_after (Some x) xs + error_marks_after (last_or (Some x) xs) ys = marks_append (Some x) xs ys in omega arith
 
 last_append : (before : Option ℕ) (xs ys : List ℕ) → last_or before (xs ++ ys) ≡ last_or (last_or before xs) ys
 last_append before [] ys = refl
@@ -20,7 +20,7 @@ counts_equal c d total errors last = λ i. record { total = total i; errors = er
 -- the counts of bytes followed by more
 pub counts_grow : (old new : Counts) (bytes : List ℕ)
     → new.total ≡ min (old.total + length bytes) (2 ^ 64 - 1)
-    → new.errors ≡ min (old.errors + marks_after old.last bytes) (2 ^ 64 - 1)
+    → new.errors ≡ min (old.errors + error_marks_after old.last bytes) (2 ^ 64 - 1)
     → new.last ≡ last_or old.last bytes
     → Grows (λ w. old ≡ counts_of w) (λ w. new ≡ counts_of w) bytes
 counts_grow old new bytes total errors last = record { each = each }
@@ -28,10 +28,10 @@ counts_grow old new bytes total errors last = record { each = each }
     each : (w : List ℕ) → old ≡ counts_of w → new ≡ counts_of (w ++ bytes)
     each w had =
         let t : old.total ≡ min (length w) (2 ^ 64 - 1) = ap (λ (c : Counts). c.total) had in
-        let e : old.errors ≡ min (marks_after None w) (2 ^ 64 - 1) = ap (λ (c : Counts). c.errors) had in
+        let e : old.errors ≡ min (error_marks_after None w) (2 ^ 64 - 1) = ap (λ (c : Counts). c.errors) had in
         let l : old.last ≡ last_or None w = ap (λ (c : Counts). c.last) had in
-        let marked : marks_after None (w ++ bytes) ≡ marks_after None w + marks_after (last_or None w) bytes = marks_append None w bytes in
-        let same : marks_after old.last bytes ≡ marks_after (last_or None w) bytes = ap (λ (o : Option ℕ). marks_after o bytes) l in
+        let marked : error_marks_after None (w ++ bytes) ≡ error_marks_after None w + error_marks_after (last_or None w) bytes = marks_append None w bytes in
+        let same : error_marks_after old.last bytes ≡ error_marks_after (last_or None w) bytes = ap (λ (o : Option ℕ). error_marks_after o bytes) l in
         counts_equal new (counts_of (w ++ bytes))
         (omega (arith, t, total, length-append w bytes))
         (omega (arith, e, errors, marked, same))

@@ -26,24 +26,24 @@ unacknowledged_of s = s.unacknowledged
 abbrev pub failed_listens_of : {R : Type 0} → TcpNet R → ℕ
 failed_listens_of s = s.faults
 
-abbrev pub hands_out : {R : Type 0} → TcpNet R → Bool
-hands_out s = s.is_out
+abbrev pub link_is_open : {R : Type 0} → TcpNet R → Bool
+link_is_open s = s.has_open_link
 
 -- the read position of a log over a file, and how many of its calls failed
-abbrev pub log_place_of : {R : Type 0} → FileLog R → ℕ
-log_place_of l = l.place
+abbrev pub log_position_of : {R : Type 0} → FileLog R → ℕ
+log_position_of l = l.place
 
 abbrev pub failed_log_calls_of : {R : Type 0} → FileLog R → ℕ
 failed_log_calls_of l = l.faults
 
 -- the first list is a subsequence of the second, which has this many more bytes
-pub data IsAmong : List ℕ → List ℕ → ℕ → Type 0 where
-  none : IsAmong [] [] 0
-  ours : {b : ℕ} {w all : List ℕ} {more : ℕ} → IsAmong w all more → IsAmong (b ∷ w) (b ∷ all) more
-  other : {b : ℕ} {w all : List ℕ} {more : ℕ} → IsAmong w all more → IsAmong w (b ∷ all) (suc more)
+pub data IsSubsequenceBut : List ℕ → List ℕ → ℕ → Type 0 where
+  none : IsSubsequenceBut [] [] 0
+  ours : {b : ℕ} {w all : List ℕ} {more : ℕ} → IsSubsequenceBut w all more → IsSubsequenceBut (b ∷ w) (b ∷ all) more
+  other : {b : ℕ} {w all : List ℕ} {more : ℕ} → IsSubsequenceBut w all more → IsSubsequenceBut w (b ∷ all) (suc more)
 
 -- The writer's bytes, if they are known, are w with the unflushed bytes among them. The number of those is `missed`,
 -- which stops at the greatest u64.
-abbrev pub HoldsBut : Option (List ℕ) → ℕ → List ℕ → Type 0
-HoldsBut None missed w = ⊥
-HoldsBut (Some all) missed w = (more : ℕ) × IsAmong w all more × (missed ≡ min more (2 ^ 64 - 1))
+abbrev pub HoldsAcknowledged : Option (List ℕ) → ℕ → List ℕ → Type 0
+HoldsAcknowledged None missed w = ⊥
+HoldsAcknowledged (Some all) missed w = (more : ℕ) × IsSubsequenceBut w all more × (missed ≡ min more (2 ^ 64 - 1))

@@ -18,10 +18,10 @@ abbrev pub Holds : (List ℕ → Type 0) → List ℕ → List ℕ → Type 0
 Holds sent waiting w = (front : List ℕ) × sent front × (w ≡ front ++ waiting)
 
 -- a read that does not wait: if it returns a count, it consumed that many bytes, otherwise none
-abbrev pub TriedRead : Option (List ℕ) → Option (List ℕ) → Option ℕ → List ℕ → Type 0
-TriedRead old new None buf = new ≡ old
-TriedRead old new (Some n) buf = (n ≤ length buf) × Consumes old new (take n buf) × (n ≡ 0 → new ≡ old)
+abbrev pub NonBlockingRead : Option (List ℕ) → Option (List ℕ) → Option ℕ → List ℕ → Type 0
+NonBlockingRead old new None buf = new ≡ old
+NonBlockingRead old new (Some n) buf = (n ≤ length buf) × Consumes old new (take n buf) × (n ≡ 0 → new ≡ old)
 
 -- the same for a read that may fail: an error consumes none
-abbrev pub TryConsumes : {E : Type 0} → Option (List ℕ) → Option (List ℕ) → Result (Option ℕ) E → List ℕ → Type 0
-TryConsumes old new r buf = MatchResult r (λ o. TriedRead old new o buf) (λ _. new ≡ old)
+abbrev pub NonBlockingConsumes : {E : Type 0} → Option (List ℕ) → Option (List ℕ) → Result (Option ℕ) E → List ℕ → Type 0
+NonBlockingConsumes old new r buf = MatchResult r (λ o. NonBlockingRead old new o buf) (λ _. new ≡ old)

@@ -17,15 +17,15 @@ abbrev pub place_after : ℕ → ℕ → ℕ
 place_after place n = min (place + n) (2 ^ 64 - 1)
 
 -- a read advances the position by n bytes at `Ok(n)`, and not at `Err`
-abbrev pub ReadMoves : {E : Type 0} → ℕ → ℕ → Result ℕ E → Type 0
-ReadMoves old new r = MatchResult r (λ n. new ≡ place_after old n) (λ _. new ≡ old)
+abbrev pub ReadAdvances : {E : Type 0} → ℕ → ℕ → Result ℕ E → Type 0
+ReadAdvances old new r = MatchResult r (λ n. new ≡ place_after old n) (λ _. new ≡ old)
 
 -- an append adds the first n bytes to the content at `Ok(n)`, and none at `Err`
-abbrev pub AppendAdds : {E : Type 0} → Option (List ℕ) → Option (List ℕ) → Result ℕ E → List ℕ → Type 0
-AppendAdds old new r bytes = MatchResult r (λ n. new ≡ append_known old (take n bytes)) (λ _. new ≡ old)
+abbrev pub AppendGrows : {E : Type 0} → Option (List ℕ) → Option (List ℕ) → Result ℕ E → List ℕ → Type 0
+AppendGrows old new r bytes = MatchResult r (λ n. new ≡ append_known old (take n bytes)) (λ _. new ≡ old)
 
 -- some prefix of these bytes was appended to the content
-pub record AddsFront (old new : Option (List ℕ)) (bytes : List ℕ) : Type 0 where
+pub record AppendsPrefix (old new : Option (List ℕ)) (bytes : List ℕ) : Type 0 where
   pub len : ℕ
   pub within : len ≤ length bytes
   pub added : new ≡ append_known old (take len bytes)

@@ -7,7 +7,7 @@ pub record Grows (old new : List ℕ → Type 0) (bytes : List ℕ) : Type 0 whe
   pub each : (w : List ℕ) → old w → new (w ++ bytes)
 
 -- it grew by some prefix of these bytes
-pub record GrowsByFront (old new : List ℕ → Type 0) (bytes : List ℕ) : Type 0 where
+pub record GrowsByPrefix (old new : List ℕ → Type 0) (bytes : List ℕ) : Type 0 where
   pub len : ℕ
   pub within : len ≤ length bytes
   pub grows : Grows old new (take len bytes)

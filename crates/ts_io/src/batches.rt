@@ -2,7 +2,7 @@
 ghost use Rattle.std.specs.Prelude.{◌≡◌, ◌<◌, [], length, false, IfOk, OnOk};
 ghost use Rattle.std.specs.Io.{ReadsAtMost, WritesAtMost};
 ghost use Rattle.std.specs.Io.KnownBytes.{ReadConsumes};
-ghost use Rattle.ts_io.specs.Batches.{Holds, TryConsumes, connection_of, waiting_of, peer_is_behind};
+ghost use Rattle.ts_io.specs.Batches.{Holds, NonBlockingConsumes, connection_of, waiting_of, peer_is_behind};
 ghost use Rattle.ts_io.specs.Causes.{HasCause};
 ghost use Rattle.ts_io.specs.Sinks.{Grows, WriteGrows};
 
@@ -24,7 +24,7 @@ const BATCH: usize = 16384;
 pub struct Batches<C> {
     pub(crate) connection: C,
     pub(crate) waiting: Waiting,
-    pub(crate) gathered: usize,
+    pub(crate) enqueued_bytes: usize,
     pub(crate) is_behind: bool,
 }
 
@@ -38,7 +38,7 @@ impl<C: Connection> Batches<C> {
         Batches {
             connection,
             waiting: Waiting::new(alloc),
-            gathered: 0,
+            enqueued_bytes: 0,
             is_behind: false,
         }
     }
@@ -72,9 +72,10 @@ impl<C: Connection> Batches<C> {
     }
 
     // Waits until bytes arrive or the peer takes queued bytes, whichever comes first.
-    fn read_behind(&mut self, buf: &mut [u8]) -> Result<usize, Failed>
+    fn read_while_behind(&mut self, buf: &mut [u8]) -> Result<usize, Failed>
         ensures bound { ReadsAtMost result buf.new }
-        ensures bytes { ReadConsumes (C.left (connection_of self.old)) (C.left (connection_of self.new)) result buf.new }
+        ensures bytes { ReadConsumes (C.left (connection_of self.old)) (C.left (connection_of self.new)) result
+            buf.new }
         ensures ended { IfOk result (λ n. n ≡ 0 → 0 < length buf.old → waiting_of self.new ≡ []) }
         ensures has { Grows (Holds (C.has (connection_of self.old)) (waiting_of self.old))
             (Holds (C.has (connection_of self.new)) (waiting_of self.new)) [] }
@@ -95,7 +96,8 @@ impl<C: Connection> Batches<C> {
 
     // Reads what has arrived, without waiting.
     fn try_read(&mut self, buf: &mut [u8]) -> Result<Option<usize>, Failed>
-        ensures bytes { TryConsumes (C.left (connection_of self.old)) (C.left (connection_of self.new)) result buf.new }
+        ensures bytes { NonBlockingConsumes (C.left (connection_of self.old)) (C.left (connection_of self.new)) result
+            buf.new }
         ensures waiting { waiting_of self.new ≡ waiting_of self.old }
         ensures has { Grows (Holds (C.has (connection_of self.old)) (waiting_of self.old))
             (Holds (C.has (connection_of self.new)) (waiting_of self.new)) [] }
@@ -107,7 +109,8 @@ impl<C: Connection> Batches<C> {
     // Sends the whole queue, then waits for bytes or the end of the input.
     fn send_all_and_read(&mut self, buf: &mut [u8]) -> Result<usize, Failed>
         ensures bound { ReadsAtMost result buf.new }
-        ensures bytes { ReadConsumes (C.left (connection_of self.old)) (C.left (connection_of self.new)) result buf.new }
+        ensures bytes { ReadConsumes (C.left (connection_of self.old)) (C.left (connection_of self.new)) result
+            buf.new }
         ensures all { OnOk result (waiting_of self.new ≡ []) }
         ensures has { Grows (Holds (C.has (connection_of self.old)) (waiting_of self.old))
             (Holds (C.has (connection_of self.new)) (waiting_of self.new)) [] }
@@ -125,7 +128,8 @@ impl<C: Connection> Source for Batches<C> {
 
     fn read(&mut self, buf: &mut [u8]) -> Result<usize, Failed>
         ensures bound { ReadsAtMost result buf.new }
-        ensures bytes { ReadConsumes (C.left (connection_of self.old)) (C.left (connection_of self.new)) result buf.new }
+        ensures bytes { ReadConsumes (C.left (connection_of self.old)) (C.left (connection_of self.new)) result
+            buf.new }
         ensures cause { HasCause (C.faults (connection_of self.old)) (C.faults (connection_of self.new)) result }
 
         // At the end of the input the queue is empty. Otherwise it is empty unless the peer is behind.
@@ -133,9 +137,9 @@ impl<C: Connection> Source for Batches<C> {
         ensures has { Grows (Holds (C.has (connection_of self.old)) (waiting_of self.old))
             (Holds (C.has (connection_of self.new)) (waiting_of self.new)) [] }
     {
-        self.send_off()?;
+        self.flush_and_check()?;
         if self.is_behind {
-            return self.read_behind(buf);
+            return self.read_while_behind(buf);
         }
         self.send_all_and_read(buf)
     }
@@ -156,9 +160,9 @@ impl<C: Connection> Sink for Batches<C> {
         if bytes.len() >= BATCH {
             return self.write_large(bytes);
         }
-        if self.gathered >= BATCH {
-            self.send_off()?;
+        if self.enqueued_bytes >= BATCH {
+            self.flush_and_check()?;
         }
-        self.gather(bytes)
+        self.enqueue(bytes)
     }
 }

@@ -2,7 +2,7 @@
 ghost use Rattle.std.specs.Prelude.{◌≡◌, ℕ, ◌<◌, List, [], length, Option, IfOk};
 ghost use Rattle.std.specs.Io.{ReadsAtMost, WritesAtMost};
 ghost use Rattle.std.specs.Io.KnownBytes.{ReadConsumes};
-ghost use Rattle.ts_io.specs.Batches.{TryConsumes};
+ghost use Rattle.ts_io.specs.Batches.{NonBlockingConsumes};
 ghost use Rattle.ts_io.specs.Causes.{HasCause};
 ghost use Rattle.ts_io.specs.Sinks.{Grows, WriteGrows};
 
@@ -49,7 +49,7 @@ pub trait Connection {
     /// Reads without waiting. `None` means that no byte has arrived. `Some(0)` for a `buf` that is not empty is the end
     /// of the input.
     fn try_receive(&mut self, buf: &mut [u8]) -> Result<Option<usize>, Failed>
-        ensures bytes { TryConsumes (left self.old) (left self.new) result buf.new }
+        ensures bytes { NonBlockingConsumes (left self.old) (left self.new) result buf.new }
         ensures has { Grows (has self.old) (has self.new) [] }
         ensures cause { HasCause (faults self.old) (faults self.new) result };
 }

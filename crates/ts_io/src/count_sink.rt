@@ -4,7 +4,7 @@ ghost use Rattle.std.specs.Io.{WritesAtMost};
 ghost use Rattle.std.specs.List.{last_or};
 ghost use Rattle.ts_io.specs.Causes.{HasCause};
 ghost use Rattle.ts_io.specs.Counts as counts;
-ghost use Rattle.ts_io.specs.Counts.{counts_of, marks_after};
+ghost use Rattle.ts_io.specs.Counts.{counts_of, error_marks_after};
 ghost use Rattle.ts_io.specs.Sinks.{WriteGrows};
 
 use crate::{Failed, Sink};
@@ -68,7 +68,9 @@ impl Sink for CountSink {
         ensures ok { IsOk result }
         ensures all { IfOk result (λ n. n ≡ length bytes.now) }
     {
-        self.errors = self.errors.saturating_add(count_marks(self.last, bytes));
+        self.errors = self
+            .errors
+            .saturating_add(count_error_marks(self.last, bytes));
         self.total = self.total.saturating_add(bytes.len() as u64);
         self.last = last_of(self.last, bytes);
         Ok(bytes.len())
@@ -76,8 +78,8 @@ impl Sink for CountSink {
 }
 
 // How many of these bytes are a `-` at the start of a line. `before` is the byte before them, if any.
-fn count_marks(before: Option<u8>, bytes: &[u8]) -> u64
-    ensures { result ≡ marks_after before bytes.now }
+fn count_error_marks(before: Option<u8>, bytes: &[u8]) -> u64
+    ensures { result ≡ error_marks_after before bytes.now }
 {
     let mut before = before;
     let mut marks = 0;

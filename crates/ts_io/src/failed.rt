@@ -1,6 +1,6 @@
 // The error of a failed device call.
 ghost use Rattle.std.specs.Prelude.{◌≡◌, ◌≤◌, Some, codes};
-ghost use Rattle.ts_io.specs.Causes.{counted};
+ghost use Rattle.ts_io.specs.Causes.{saturating_succ};
 
 use std::error::Error;
 use std::fmt;
@@ -29,7 +29,7 @@ impl Error for Failed {}
 
 /// Counts a failure. The count stops at `u64::MAX`.
 pub(crate) fn count_failure(faults: &mut u64) -> Failed
-    ensures counted { faults.new ≡ counted faults.old }
+    ensures saturating_succ { faults.new ≡ saturating_succ faults.old }
     ensures later { faults.old ≤ faults.new }
 {
     *faults = faults.saturating_add(1);

@@ -1,9 +1,9 @@
 // A log over a file.
 ghost use Rattle.std.specs.Prelude.{◌≡◌, ◌<◌, ◌≤◌, None, length, IfOk, OnOk, OnErr};
 ghost use Rattle.std.specs.Io.{ReadsAtMost, WritesAtMost};
-ghost use Rattle.ts_io.specs.Adapters.{failed_log_calls_of, log_place_of};
-ghost use Rattle.ts_io.specs.Causes.{HasCause, counted};
-ghost use Rattle.ts_io.specs.Logs.{ReadMoves};
+ghost use Rattle.ts_io.specs.Adapters.{failed_log_calls_of, log_position_of};
+ghost use Rattle.ts_io.specs.Causes.{HasCause, saturating_succ};
+ghost use Rattle.ts_io.specs.Logs.{ReadAdvances};
 
 use crate::failed::count_failure;
 use crate::{Failed, Log};
@@ -29,7 +29,7 @@ pub struct FileLog<R> {
 impl<R: Files<File = File>> FileLog<R> {
     /// Creates a log without an open file.
     pub fn new(rt: R) -> Self
-        ensures place { log_place_of result ≡ 0 }
+        ensures place { log_position_of result ≡ 0 }
         ensures faults { failed_log_calls_of result ≡ 0 }
         ensures content { ⟦<FileLog<R> as Log>⟧.content result ≡ None }
     {
@@ -42,13 +42,13 @@ impl<R: Files<File = File>> FileLog<R> {
     }
 
     // Opens and locks the file, creating it if it does not exist. All writes go to its end.
-    fn locked(&self, name: &str) -> io::Result<File> {
+    fn open_locked(&self, name: &str) -> io::Result<File> {
         let file = OpenOptions::new()
             .read(true)
             .append(true)
             .create(true)
             .open(&self.rt, name)?;
-        let file = above_streams(file)?;
+        let file = above_standard_streams(file)?;
         file.try_lock()?;
         Ok(file)
     }
@@ -92,20 +92,20 @@ impl<R: Files<File = File>> FileLog<R> {
 impl<R: Files<File = File>> Log for FileLog<R> {
     ghost content = { λ _. None };
 
-    ghost place = { log_place_of };
+    ghost place = { log_position_of };
 
     ghost faults = { failed_log_calls_of };
 
     /// Opens and locks the file, creating it if it does not exist. The file that was open is closed first. Fails
     /// without changing the file if another log has it open.
     fn open(&mut self, name: &str) -> Result<(), Failed>
-        ensures start { OnOk result (log_place_of self.new ≡ 0) }
-        ensures failed { OnErr result (log_place_of self.new ≡ log_place_of self.old) }
+        ensures start { OnOk result (log_position_of self.new ≡ 0) }
+        ensures failed { OnErr result (log_position_of self.new ≡ log_position_of self.old) }
         ensures cause { HasCause (failed_log_calls_of self.old) (failed_log_calls_of self.new) result }
-        ensures err { OnErr result (failed_log_calls_of self.new ≡ counted (failed_log_calls_of self.old)) }
+        ensures err { OnErr result (failed_log_calls_of self.new ≡ saturating_succ (failed_log_calls_of self.old)) }
     {
         self.file = None;
-        match self.locked(name) {
+        match self.open_locked(name) {
             Ok(file) => {
                 self.file = Some(file);
                 self.place = 0;
@@ -118,9 +118,9 @@ impl<R: Files<File = File>> Log for FileLog<R> {
     /// Fails if no file is open.
     fn read(&mut self, buf: &mut [u8]) -> Result<usize, Failed>
         ensures bound { ReadsAtMost result buf.new }
-        ensures place { ReadMoves (log_place_of self.old) (log_place_of self.new) result }
+        ensures place { ReadAdvances (log_position_of self.old) (log_position_of self.new) result }
         ensures cause { HasCause (failed_log_calls_of self.old) (failed_log_calls_of self.new) result }
-        ensures err { OnErr result (failed_log_calls_of self.new ≡ counted (failed_log_calls_of self.old)) }
+        ensures err { OnErr result (failed_log_calls_of self.new ≡ saturating_succ (failed_log_calls_of self.old)) }
     {
         match self.read_once(buf) {
             Ok(count) => {
@@ -134,10 +134,10 @@ impl<R: Files<File = File>> Log for FileLog<R> {
     /// Returns `Ok` once the system reports that the remaining content is on disk. If the cut succeeds and that report
     /// fails, the call fails although the file is cut. Fails if no file is open.
     fn cut(&mut self, len: u64) -> Result<(), Failed>
-        requires { len ≤ log_place_of self.old }
-        ensures place { log_place_of self.new ≡ log_place_of self.old }
+        requires { len ≤ log_position_of self.old }
+        ensures place { log_position_of self.new ≡ log_position_of self.old }
         ensures cause { HasCause (failed_log_calls_of self.old) (failed_log_calls_of self.new) result }
-        ensures err { OnErr result (failed_log_calls_of self.new ≡ counted (failed_log_calls_of self.old)) }
+        ensures err { OnErr result (failed_log_calls_of self.new ≡ saturating_succ (failed_log_calls_of self.old)) }
     {
         match self.cut_and_sync(len) {
             Ok(()) => Ok(()),
@@ -149,9 +149,9 @@ impl<R: Files<File = File>> Log for FileLog<R> {
     fn append(&mut self, bytes: &[u8]) -> Result<usize, Failed>
         ensures bound { WritesAtMost result bytes.now }
         ensures progress { 0 < length bytes.now → IfOk result (λ n. 0 < n) }
-        ensures place { log_place_of self.new ≡ log_place_of self.old }
+        ensures place { log_position_of self.new ≡ log_position_of self.old }
         ensures cause { HasCause (failed_log_calls_of self.old) (failed_log_calls_of self.new) result }
-        ensures err { OnErr result (failed_log_calls_of self.new ≡ counted (failed_log_calls_of self.old)) }
+        ensures err { OnErr result (failed_log_calls_of self.new ≡ saturating_succ (failed_log_calls_of self.old)) }
     {
         match self.write_once(bytes) {
             Ok(count) => Ok(count),
@@ -162,7 +162,7 @@ impl<R: Files<File = File>> Log for FileLog<R> {
 
 // Duplicates the file if its descriptor is that of a standard stream. If such a stream was closed, the system gives its
 // descriptor to the next file opened, and later writes to the stream would go into that file.
-fn above_streams(file: File) -> io::Result<File> {
+fn above_standard_streams(file: File) -> io::Result<File> {
     if file.as_raw_fd() <= 2 {
         return file.try_clone();
     }

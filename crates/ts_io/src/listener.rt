@@ -1,7 +1,7 @@
 // The listener that a server accepts connections from.
 ghost use Rattle.std.specs.Prelude.{◌≡◌, ℕ, List, Option, Bool, true, false, is_ok, IfOk, OnErr};
 ghost use Rattle.ts_io.specs.Causes.{HasCause};
-ghost use Rattle.ts_io.specs.Links.{TakesFront, AddsAtEnd};
+ghost use Rattle.ts_io.specs.Links.{PopsFront, PushesBack};
 ghost use Rattle.ts_io.specs.declared.listener.Ends.{Ends};
 
 use crate::{Failed, Sink, Source};
@@ -29,29 +29,29 @@ pub trait Listener {
     ghost closed: { Self → Option (List (Ends Self.In Self.Out)) };
 
     /// Whether a connection is open.
-    ghost is_out: { Self → Bool };
+    ghost has_open_link: { Self → Bool };
 
     /// Starts to listen on this address.
     fn open(&mut self, address: &str) -> Result<(), Failed>
         ensures coming { coming self.new ≡ coming self.old }
         ensures closed { closed self.new ≡ closed self.old }
-        ensures out { is_out self.new ≡ is_out self.old }
+        ensures out { has_open_link self.new ≡ has_open_link self.old }
         ensures cause { HasCause (faults self.old) (faults self.new) result };
 
     /// Accepts the next connection.
     fn accept(&mut self) -> Result<Ends<Self::In, Self::Out>, Failed>
-        requires { is_out self.old ≡ false }
-        ensures link { IfOk result (TakesFront (coming self.old) (coming self.new)) }
+        requires { has_open_link self.old ≡ false }
+        ensures link { IfOk result (PopsFront (coming self.old) (coming self.new)) }
         ensures failed { OnErr result (coming self.new ≡ coming self.old) }
         ensures closed { closed self.new ≡ closed self.old }
-        ensures out { is_out self.new ≡ is_ok result }
+        ensures out { has_open_link self.new ≡ is_ok result }
         ensures cause { HasCause (faults self.old) (faults self.new) result };
 
     /// Closes the connection. It can't fail.
     fn close(&mut self, ends: Ends<Self::In, Self::Out>)
-        requires { is_out self.old ≡ true }
+        requires { has_open_link self.old ≡ true }
         ensures coming { coming self.new ≡ coming self.old }
-        ensures closed { AddsAtEnd (closed self.old) (closed self.new) ends }
-        ensures out { is_out self.new ≡ false }
+        ensures closed { PushesBack (closed self.old) (closed self.new) ends }
+        ensures out { has_open_link self.new ≡ false }
         ensures faults { faults self.new ≡ faults self.old };
 }

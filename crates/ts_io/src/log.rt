@@ -3,7 +3,7 @@ ghost use Rattle.std.specs.Prelude.{◌≡◌, ℕ, ◌<◌, ◌≤◌, List, le
 ghost use Rattle.std.specs.Io.{ReadsAtMost, WritesAtMost};
 ghost use Rattle.std.specs.Io.KnownBytes.{ReadConsumes, append_known};
 ghost use Rattle.ts_io.specs.Causes.{HasCause};
-ghost use Rattle.ts_io.specs.Logs.{AddsFront, AppendAdds, ReadMoves, front, unread};
+ghost use Rattle.ts_io.specs.Logs.{AppendsPrefix, AppendGrows, ReadAdvances, front, unread};
 
 use crate::Failed;
 
@@ -35,7 +35,7 @@ pub trait Log {
         ensures bytes { ReadConsumes (unread (content self.old) (place self.old))
             (unread (content self.new) (place self.new)) result buf.new }
         ensures content { content self.new ≡ content self.old }
-        ensures place { ReadMoves (place self.old) (place self.new) result }
+        ensures place { ReadAdvances (place self.old) (place self.new) result }
         ensures cause { HasCause (faults self.old) (faults self.new) result };
 
     /// Keeps the first `len` bytes and drops the rest. A shorter log stays as it is.
@@ -50,7 +50,7 @@ pub trait Log {
     fn append(&mut self, bytes: &[u8]) -> Result<usize, Failed>
         ensures bound { WritesAtMost result bytes.now }
         ensures progress { 0 < length bytes.now → IfOk result (λ n. 0 < n) }
-        ensures bytes { AppendAdds (content self.old) (content self.new) result bytes.now }
+        ensures bytes { AppendGrows (content self.old) (content self.new) result bytes.now }
         ensures place { place self.new ≡ place self.old }
         ensures cause { HasCause (faults self.old) (faults self.new) result };
 }
@@ -58,7 +58,7 @@ pub trait Log {
 /// Appends all of `bytes`, in as many calls as needed. Stops at the first call that fails.
 pub fn append_all_counted<J: Log>(log: &mut J, bytes: &[u8]) -> Result<(), Failed>
     ensures all { OnOk result (J.content log.new ≡ append_known (J.content log.old) bytes.now) }
-    ensures front { OnErr result (AddsFront (J.content log.old) (J.content log.new) bytes.now) }
+    ensures front { OnErr result (AppendsPrefix (J.content log.old) (J.content log.new) bytes.now) }
     ensures place { J.place log.new ≡ J.place log.old }
     ensures cause { HasCause (J.faults log.old) (J.faults log.new) result }
 {

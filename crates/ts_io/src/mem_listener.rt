@@ -1,5 +1,6 @@
 // A listener for tests, with connections in memory.
-ghost use Rattle.std.specs.Prelude.{◌≡◌, ◌≤◌, ◌⊎◌, [], ◌∷◌, ◌++◌, Some, true, false, IfOk, OnErr, IsErr, Contains, is_ok, is_err, ◌↔◌};
+ghost use Rattle.std.specs.Prelude.{◌≡◌, ◌≤◌, ◌⊎◌, [], ◌∷◌, ◌++◌, Some, true, false, IfOk, OnErr, IsErr, Contains};
+ghost use Rattle.std.specs.Prelude.{is_ok, is_err, ◌↔◌};
 ghost use Rattle.ts_io.specs.Causes.{HasCause};
 
 use crate::schedule::Schedule;
@@ -13,7 +14,7 @@ use std::marker::Model;
 pub struct MemListener {
     coming: VecDeque<Ends<MemSource, MemSink>>,
     closed: Vec<Ends<MemSource, MemSink>>,
-    is_out: bool,
+    has_open_link: bool,
     schedule: Schedule,
 }
 
@@ -27,12 +28,12 @@ impl Model for MemListener {
     ghost view = { λ s. record {
       coming = s.coming.items;
       closed = s.closed.items;
-      is_out = s.is_out;
+      has_open_link = s.has_open_link;
       calls = s.schedule;
     } };
 
     // The list of closed connections has capacity for all others.
-    ghost invariant = { λ s. vec_len s.closed + deque_len s.coming + (if s.is_out then 1 else 0)
+    ghost invariant = { λ s. vec_len s.closed + deque_len s.coming + (if s.has_open_link then 1 else 0)
         ≤ vec_capacity s.closed };
 }
 
@@ -46,14 +47,14 @@ impl MemListener {
     ) -> Result<Self, AllocError>
         ensures coming { IfOk result (λ s. s.coming ≡ links.items) }
         ensures closed { IfOk result (λ s. s.closed ≡ []) }
-        ensures out { IfOk result (λ s. s.is_out ≡ false) }
+        ensures out { IfOk result (λ s. s.has_open_link ≡ false) }
         ensures calls { IfOk result (λ s.
             s.calls ≡ record { to_fail = fail.items; made = 0; failed = 0 }) }
     {
         Ok(MemListener {
             closed: Vec::with_capacity(alloc, links.len())?,
             coming: VecDeque::from_vec(links),
-            is_out: false,
+            has_open_link: false,
             schedule: Schedule::new(fail),
         })
     }
@@ -71,7 +72,7 @@ impl Listener for MemListener {
 
     type Out = MemSink;
 
-    ghost use Rattle.ts_io.specs.Calls.{next_number, after_call};
+    ghost use Rattle.ts_io.specs.Calls.{next_call_number, after_call};
 
     ghost faults = { λ s. s.calls.failed };
 
@@ -79,40 +80,40 @@ impl Listener for MemListener {
 
     ghost closed = { λ s. Some s.closed };
 
-    ghost is_out = { λ s. s.is_out };
+    ghost has_open_link = { λ s. s.has_open_link };
 
     /// Listens on no address.
     fn open(&mut self, _address: &str) -> Result<(), Failed>
         ensures coming { self.new.coming ≡ self.old.coming }
         ensures closed { self.new.closed ≡ self.old.closed }
-        ensures out { self.new.is_out ≡ self.old.is_out }
+        ensures out { self.new.has_open_link ≡ self.old.has_open_link }
         ensures cause { HasCause self.old.calls.failed self.new.calls.failed result }
         ensures calls { self.new.calls ≡ after_call self.old.calls (is_err result) }
-        ensures fails { IsErr result ↔ Contains self.old.calls.to_fail (next_number self.old.calls) }
+        ensures fails { IsErr result ↔ Contains self.old.calls.to_fail (next_call_number self.old.calls) }
     {
         self.schedule.call()
     }
 
     /// Fails, and counts the failure, if no connection is left.
     fn accept(&mut self) -> Result<Ends<MemSource, MemSink>, Failed>
-        requires { self.old.is_out ≡ false }
+        requires { self.old.has_open_link ≡ false }
         ensures link { IfOk result (λ ends. self.old.coming ≡ ends ∷ self.new.coming) }
         ensures failed { OnErr result (self.new.coming ≡ self.old.coming) }
         ensures closed { self.new.closed ≡ self.old.closed }
-        ensures out { self.new.is_out ≡ is_ok result }
+        ensures out { self.new.has_open_link ≡ is_ok result }
         ensures cause { HasCause self.old.calls.failed self.new.calls.failed result }
         ensures calls { self.new.calls ≡ after_call self.old.calls (is_err result) }
 
         // It fails at the chosen numbers and if no connection is left, and otherwise never.
-        ensures chosen { Contains self.old.calls.to_fail (next_number self.old.calls) → IsErr result }
+        ensures chosen { Contains self.old.calls.to_fail (next_call_number self.old.calls) → IsErr result }
         ensures empty { self.old.coming ≡ [] → IsErr result }
         ensures fails { IsErr result →
-            Contains self.old.calls.to_fail (next_number self.old.calls) ⊎ (self.old.coming ≡ []) }
+            Contains self.old.calls.to_fail (next_call_number self.old.calls) ⊎ (self.old.coming ≡ []) }
     {
         self.schedule.call()?;
         match self.coming.pop_front() {
             Some(ends) => {
-                self.is_out = true;
+                self.has_open_link = true;
                 Ok(ends)
             }
             None => Err(self.schedule.fault()),
@@ -120,13 +121,13 @@ impl Listener for MemListener {
     }
 
     fn close(&mut self, ends: Ends<MemSource, MemSink>)
-        requires { self.old.is_out ≡ true }
+        requires { self.old.has_open_link ≡ true }
         ensures coming { self.new.coming ≡ self.old.coming }
         ensures closed { self.new.closed ≡ self.old.closed ++ ends ∷ [] }
-        ensures out { self.new.is_out ≡ false }
+        ensures out { self.new.has_open_link ≡ false }
         ensures calls { self.new.calls ≡ self.old.calls }
     {
-        self.is_out = false;
+        self.has_open_link = false;
         self.closed.push_reserved(ends);
     }
 }

@@ -1,11 +1,12 @@
 // A log for tests, with its content in memory.
-ghost use Rattle.std.specs.Prelude.{◌≡◌, ◌-◌, ◌<◌, ◌≤◌, ◌↔◌, Some, length, min, take, IfOk, OnOk, OnErr, IsErr, Contains, is_err};
+ghost use Rattle.std.specs.Prelude.{◌≡◌, ◌-◌, ◌<◌, ◌≤◌, ◌↔◌, Some, length, min, take, IfOk, OnOk, OnErr, IsErr};
+ghost use Rattle.std.specs.Prelude.{Contains, is_err};
 ghost use Rattle.std.specs.Io.{ReadsAtMost, WritesAtMost};
 ghost use Rattle.std.specs.Io.KnownBytes.{ReadConsumes};
 ghost use Rattle.ts_io.specs.Causes.{HasCause};
-ghost use Rattle.ts_io.specs.Logs.{AppendAdds, ReadMoves, unread};
+ghost use Rattle.ts_io.specs.Logs.{AppendGrows, ReadAdvances, unread};
 
-use crate::mem_streams::copy_front;
+use crate::mem_streams::copy_prefix;
 use crate::schedule::Schedule;
 use crate::{Failed, Log};
 use std::marker::Model;
@@ -51,7 +52,7 @@ impl MemLog {
 }
 
 impl Log for MemLog {
-    ghost use Rattle.ts_io.specs.Calls.{next_number, after_call};
+    ghost use Rattle.ts_io.specs.Calls.{next_call_number, after_call};
 
     ghost content = { λ s. Some s.content };
 
@@ -66,7 +67,7 @@ impl Log for MemLog {
         ensures failed { OnErr result (self.new.place ≡ self.old.place) }
         ensures cause { HasCause self.old.calls.failed self.new.calls.failed result }
         ensures calls { self.new.calls ≡ after_call self.old.calls (is_err result) }
-        ensures fails { IsErr result ↔ Contains self.old.calls.to_fail (next_number self.old.calls) }
+        ensures fails { IsErr result ↔ Contains self.old.calls.to_fail (next_call_number self.old.calls) }
     {
         self.schedule.call()?;
         self.place = 0;
@@ -78,17 +79,17 @@ impl Log for MemLog {
         ensures bytes { ReadConsumes (unread (Some self.old.content) self.old.place)
             (unread (Some self.new.content) self.new.place) result buf.new }
         ensures content { self.new.content ≡ self.old.content }
-        ensures place { ReadMoves self.old.place self.new.place result }
+        ensures place { ReadAdvances self.old.place self.new.place result }
         ensures cause { HasCause self.old.calls.failed self.new.calls.failed result }
 
         // As many bytes as fit the buffer and are left.
         ensures count { IfOk result (λ n. n ≡ min (length buf.old) (length self.old.content - self.old.place)) }
         ensures calls { self.new.calls ≡ after_call self.old.calls (is_err result) }
-        ensures fails { IsErr result ↔ Contains self.old.calls.to_fail (next_number self.old.calls) }
+        ensures fails { IsErr result ↔ Contains self.old.calls.to_fail (next_call_number self.old.calls) }
     {
         self.schedule.call()?;
         let start = self.content.len().min(self.place as usize);
-        let count = copy_front(&self.content[start..], buf.len(), buf);
+        let count = copy_prefix(&self.content[start..], buf.len(), buf);
         self.place = self.place.saturating_add(count as u64);
         Ok(count)
     }
@@ -100,7 +101,7 @@ impl Log for MemLog {
         ensures place { self.new.place ≡ self.old.place }
         ensures cause { HasCause self.old.calls.failed self.new.calls.failed result }
         ensures calls { self.new.calls ≡ after_call self.old.calls (is_err result) }
-        ensures fails { IsErr result ↔ Contains self.old.calls.to_fail (next_number self.old.calls) }
+        ensures fails { IsErr result ↔ Contains self.old.calls.to_fail (next_call_number self.old.calls) }
     {
         self.schedule.call()?;
         self.content.truncate(len as usize);
@@ -110,7 +111,7 @@ impl Log for MemLog {
     fn append(&mut self, bytes: &[u8]) -> Result<usize, Failed>
         ensures bound { WritesAtMost result bytes.now }
         ensures progress { 0 < length bytes.now → IfOk result (λ n. 0 < n) }
-        ensures bytes { AppendAdds (Some self.old.content) (Some self.new.content) result bytes.now }
+        ensures bytes { AppendGrows (Some self.old.content) (Some self.new.content) result bytes.now }
         ensures place { self.new.place ≡ self.old.place }
         ensures cause { HasCause self.old.calls.failed self.new.calls.failed result }
 
@@ -119,7 +120,7 @@ impl Log for MemLog {
         ensures calls { self.new.calls ≡ after_call self.old.calls (is_err result) }
 
         // Any other call may fail if memory runs out.
-        ensures fails { Contains self.old.calls.to_fail (next_number self.old.calls) → IsErr result }
+        ensures fails { Contains self.old.calls.to_fail (next_call_number self.old.calls) → IsErr result }
     {
         self.schedule.call()?;
         match self.content.extend_from_slice(bytes) {

@@ -11,7 +11,7 @@ use std::alloc::Global;
 use std::marker::Model;
 
 /// Copies a prefix of `from`, at most `most` bytes, to the start of `to`. Returns its length.
-pub(crate) fn copy_front(from: &[u8], most: usize, to: &mut [u8]) -> usize
+pub(crate) fn copy_prefix(from: &[u8], most: usize, to: &mut [u8]) -> usize
     ensures count { result ≡ min most (min (length to.old) (length from.now)) }
     ensures copied { take result to.new ≡ take result from.now }
 {
@@ -59,7 +59,7 @@ impl MemSource {
 }
 
 impl Source for MemSource {
-    ghost use Rattle.ts_io.specs.Calls.{next_number, after_call};
+    ghost use Rattle.ts_io.specs.Calls.{next_call_number, after_call};
 
     ghost left = { λ s. Some s.left };
 
@@ -75,10 +75,10 @@ impl Source for MemSource {
             n ≡ min self.old.piece (min (length buf.old) (length self.old.left))) }
         ensures piece { self.new.piece ≡ self.old.piece }
         ensures calls { self.new.calls ≡ after_call self.old.calls (is_err result) }
-        ensures fails { IsErr result ↔ Contains self.old.calls.to_fail (next_number self.old.calls) }
+        ensures fails { IsErr result ↔ Contains self.old.calls.to_fail (next_call_number self.old.calls) }
     {
         self.schedule.call()?;
-        let count = copy_front(&self.bytes[self.place..], self.piece, buf);
+        let count = copy_prefix(&self.bytes[self.place..], self.piece, buf);
         self.place += count;
         Ok(count)
     }
@@ -129,7 +129,7 @@ impl MemSink {
 }
 
 impl Sink for MemSink {
-    ghost use Rattle.ts_io.specs.Calls.{next_number, after_call};
+    ghost use Rattle.ts_io.specs.Calls.{next_call_number, after_call};
 
     ghost has = { λ s w. s.written ≡ w };
 
@@ -147,7 +147,7 @@ impl Sink for MemSink {
         ensures calls { self.new.calls ≡ after_call self.old.calls (is_err result) }
 
         // Any other call may fail if memory runs out.
-        ensures fails { Contains self.old.calls.to_fail (next_number self.old.calls) → IsErr result }
+        ensures fails { Contains self.old.calls.to_fail (next_call_number self.old.calls) → IsErr result }
     {
         self.schedule.call()?;
         let count = self.most.min(bytes.len());

@@ -1,6 +1,6 @@
 // Which calls of a device in memory fail.
 ghost use Rattle.std.specs.Prelude.{◌≡◌, ◌≤◌, ◌↔◌, IsErr, Contains, is_err};
-ghost use Rattle.ts_io.specs.Causes.{HasCause, counted};
+ghost use Rattle.ts_io.specs.Causes.{HasCause, saturating_succ};
 
 use crate::Failed;
 use crate::failed::count_failure;
@@ -23,7 +23,7 @@ impl Model for Schedule {
 }
 
 impl Schedule {
-    ghost use Rattle.ts_io.specs.Calls.{next_number, after_call};
+    ghost use Rattle.ts_io.specs.Calls.{next_call_number, after_call};
 
     pub(crate) fn new(to_fail: Vec<u64>) -> Self
         ensures { result ≡ record { to_fail = to_fail.items; made = 0; failed = 0 } }
@@ -37,8 +37,8 @@ impl Schedule {
 
     /// Counts a call, which fails if its number is one of the chosen.
     pub(crate) fn call(&mut self) -> Result<(), Failed>
-        ensures fails { IsErr result ↔ Contains self.old.to_fail (next_number self.old) }
-        ensures counted { self.new ≡ after_call self.old (is_err result) }
+        ensures fails { IsErr result ↔ Contains self.old.to_fail (next_call_number self.old) }
+        ensures saturating_succ { self.new ≡ after_call self.old (is_err result) }
         ensures cause { HasCause self.old.failed self.new.failed result }
     {
         self.made = self.made.saturating_add(1);
@@ -50,7 +50,7 @@ impl Schedule {
 
     /// Counts a failure of the last call.
     pub(crate) fn fault(&mut self) -> Failed
-        ensures counted { self.new ≡ record self.old { failed = counted self.old.failed } }
+        ensures saturating_succ { self.new ≡ record self.old { failed = saturating_succ self.old.failed } }
         ensures later { self.old.failed ≤ self.new.failed }
     {
         count_failure(&mut self.failed)

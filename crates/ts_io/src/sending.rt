@@ -24,14 +24,14 @@ impl<C: Connection> Batches<C> {
     }
 
     // Sends from the queue, if it is not empty, and updates whether the peer is behind.
-    pub(crate) fn send_off(&mut self) -> Result<(), Failed>
+    pub(crate) fn flush_and_check(&mut self) -> Result<(), Failed>
         ensures behind { OnOk result (peer_is_behind self.new ≡ false → waiting_of self.new ≡ []) }
         ensures has { Grows (Holds (C.has (connection_of self.old)) (waiting_of self.old))
             (Holds (C.has (connection_of self.new)) (waiting_of self.new)) [] }
         ensures left { C.left (connection_of self.new) ≡ C.left (connection_of self.old) }
         ensures cause { HasCause (C.faults (connection_of self.old)) (C.faults (connection_of self.new)) result }
     {
-        self.gathered = 0;
+        self.enqueued_bytes = 0;
         if self.waiting.is_empty() {
             self.is_behind = false;
             return Ok(());
@@ -48,7 +48,7 @@ impl<C: Connection> Batches<C> {
 
     // Queues these bytes. If they don't fit, sends until they do; if they don't fit an empty queue, sends them
     // directly.
-    pub(crate) fn gather(&mut self, bytes: &[u8]) -> Result<usize, Failed>
+    pub(crate) fn enqueue(&mut self, bytes: &[u8]) -> Result<usize, Failed>
         ensures bound { WritesAtMost result bytes.now }
         ensures progress { 0 < length bytes.now → IfOk result (λ n. 0 < n) }
         ensures bytes { WriteGrows (Holds (C.has (connection_of self.old)) (waiting_of self.old))
@@ -58,10 +58,10 @@ impl<C: Connection> Batches<C> {
         loop {
             match self.waiting.push(bytes) {
                 Ok(()) => {
-                    self.gathered = self.gathered.saturating_add(bytes.len());
+                    self.enqueued_bytes = self.enqueued_bytes.saturating_add(bytes.len());
                     return Ok(bytes.len());
                 }
-                Err(_) if self.waiting.is_empty() => return self.send_straight(bytes, Wait::Long),
+                Err(_) if self.waiting.is_empty() => return self.send_directly(bytes, Wait::Long),
                 Err(_) => self.send(Wait::Long)?,
             }
         }
@@ -75,15 +75,15 @@ impl<C: Connection> Batches<C> {
             (Holds (C.has (connection_of self.new)) (waiting_of self.new)) result bytes.now }
         ensures cause { HasCause (C.faults (connection_of self.old)) (C.faults (connection_of self.new)) result }
     {
-        self.send_off()?;
+        self.flush_and_check()?;
         if self.is_behind {
-            return self.gather(bytes);
+            return self.enqueue(bytes);
         }
-        self.write_straight(bytes)
+        self.write_directly(bytes)
     }
 
     // Sends these bytes directly: the queue is empty and the peer keeps up. Queues them if the peer takes none.
-    fn write_straight(&mut self, bytes: &[u8]) -> Result<usize, Failed>
+    fn write_directly(&mut self, bytes: &[u8]) -> Result<usize, Failed>
         requires { waiting_of self.old ≡ [] }
         ensures bound { WritesAtMost result bytes.now }
         ensures progress { 0 < length bytes.now → IfOk result (λ n. 0 < n) }
@@ -91,10 +91,10 @@ impl<C: Connection> Batches<C> {
             (Holds (C.has (connection_of self.new)) (waiting_of self.new)) result bytes.now }
         ensures cause { HasCause (C.faults (connection_of self.old)) (C.faults (connection_of self.new)) result }
     {
-        match self.send_straight(bytes, Wait::Briefly) {
+        match self.send_directly(bytes, Wait::Briefly) {
             Ok(0) => {
                 self.is_behind = true;
-                self.gather(bytes)
+                self.enqueue(bytes)
             }
             Ok(count) => {
                 self.is_behind = count < bytes.len();
@@ -105,7 +105,7 @@ impl<C: Connection> Batches<C> {
     }
 
     // Makes one send of these bytes. The queue is empty.
-    fn send_straight(&mut self, bytes: &[u8], wait: Wait) -> Result<usize, Failed>
+    fn send_directly(&mut self, bytes: &[u8], wait: Wait) -> Result<usize, Failed>
         requires { waiting_of self.old ≡ [] }
         ensures bound { WritesAtMost result bytes.now }
         ensures progress { wait ≡ Wait.Long → 0 < length bytes.now → IfOk result (λ n. 0 < n) }

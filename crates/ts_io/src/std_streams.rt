@@ -2,8 +2,9 @@
 ghost use Rattle.std.specs.Prelude.{◌≡◌, ◌<◌, ◌≤◌, OnOk, OnErr, length, take, IfOk, IfErr, IfSome};
 ghost use Rattle.std.specs.Io.{ReadsAtMost, WritesAtMost};
 ghost use Rattle.std.specs.Io.KnownBytes.{ReadConsumes, Appends};
-ghost use Rattle.ts_io.specs.Adapters.{reader_of, failed_reads_of, HoldsBut, writer_of, failed_writes_of, unacknowledged_of};
-ghost use Rattle.ts_io.specs.Causes.{HasCause, counted};
+ghost use Rattle.ts_io.specs.Adapters.{reader_of, failed_reads_of, HoldsAcknowledged, writer_of, failed_writes_of};
+ghost use Rattle.ts_io.specs.Adapters.{unacknowledged_of};
+ghost use Rattle.ts_io.specs.Causes.{HasCause, saturating_succ};
 ghost use Rattle.ts_io.specs.Sinks.{WriteGrows};
 
 use crate::failed::count_failure;
@@ -38,7 +39,7 @@ impl<R: Read> Source for StdSource<R> {
             (R.remaining (reader_of self.new)) result buf.new }
         ensures cause { HasCause (failed_reads_of self.old) (failed_reads_of self.new) result }
         ensures ok { OnOk result (failed_reads_of self.new ≡ failed_reads_of self.old) }
-        ensures err { OnErr result (failed_reads_of self.new ≡ counted (failed_reads_of self.old)) }
+        ensures err { OnErr result (failed_reads_of self.new ≡ saturating_succ (failed_reads_of self.old)) }
     {
         match self.inner.read(buf) {
             Ok(count) => Ok(count),
@@ -82,7 +83,7 @@ impl<W: Write> StdSink<W> {
 }
 
 impl<W: Write> Sink for StdSink<W> {
-    ghost has = { λ s w. HoldsBut (W.contents (writer_of s)) (unacknowledged_of s) w };
+    ghost has = { λ s w. HoldsAcknowledged (W.contents (writer_of s)) (unacknowledged_of s) w };
 
     ghost faults = { failed_writes_of };
 
@@ -90,13 +91,13 @@ impl<W: Write> Sink for StdSink<W> {
         ensures bound { WritesAtMost result bytes.now }
         ensures progress { 0 < length bytes.now → IfOk result (λ n. 0 < n) }
         ensures bytes { WriteGrows
-            (HoldsBut (W.contents (writer_of self.old)) (unacknowledged_of self.old))
-            (HoldsBut (W.contents (writer_of self.new)) (unacknowledged_of self.new))
+            (HoldsAcknowledged (W.contents (writer_of self.old)) (unacknowledged_of self.old))
+            (HoldsAcknowledged (W.contents (writer_of self.new)) (unacknowledged_of self.new))
             result bytes.now }
         ensures cause { HasCause (failed_writes_of self.old) (failed_writes_of self.new) result }
         ensures ok { OnOk result ((failed_writes_of self.new ≡ failed_writes_of self.old)
             × (unacknowledged_of self.new ≡ unacknowledged_of self.old)) }
-        ensures err { OnErr result (failed_writes_of self.new ≡ counted (failed_writes_of self.old)) }
+        ensures err { OnErr result (failed_writes_of self.new ≡ saturating_succ (failed_writes_of self.old)) }
     {
         match write_and_flush(&mut self.inner, bytes) {
             Ok(count) => Ok(count),

@@ -3,7 +3,7 @@ ghost use Rattle.std.specs.Prelude.{◌<◌, ℕ, List, Option, length, IfOk, On
 ghost use Rattle.std.specs.Io.{ReadsAtMost, WritesAtMost};
 ghost use Rattle.std.specs.Io.KnownBytes.{ReadConsumes};
 ghost use Rattle.ts_io.specs.Causes.{HasCause};
-ghost use Rattle.ts_io.specs.Sinks.{Grows, GrowsByFront, WriteGrows};
+ghost use Rattle.ts_io.specs.Sinks.{Grows, GrowsByPrefix, WriteGrows};
 
 use crate::Failed;
 
@@ -44,7 +44,7 @@ pub trait Sink {
 /// Writes all of `bytes`, in as many calls as needed. Stops at the first write that fails.
 pub fn write_all_counted<K: Sink>(sink: &mut K, bytes: &[u8]) -> Result<(), Failed>
     ensures all { OnOk result (Grows (K.has sink.old) (K.has sink.new) bytes.now) }
-    ensures front { OnErr result (GrowsByFront (K.has sink.old) (K.has sink.new) bytes.now) }
+    ensures front { OnErr result (GrowsByPrefix (K.has sink.old) (K.has sink.new) bytes.now) }
     ensures cause { HasCause (K.faults sink.old) (K.faults sink.new) result }
 {
     let mut written = 0;

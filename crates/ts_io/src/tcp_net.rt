@@ -1,7 +1,7 @@
 // A TCP listener.
 ghost use Rattle.std.specs.Prelude.{◌≡◌, None, true, false, is_ok, OnOk, OnErr};
-ghost use Rattle.ts_io.specs.Adapters.{failed_listens_of, hands_out};
-ghost use Rattle.ts_io.specs.Causes.{HasCause, counted};
+ghost use Rattle.ts_io.specs.Adapters.{failed_listens_of, link_is_open};
+ghost use Rattle.ts_io.specs.Causes.{HasCause, saturating_succ};
 
 use crate::failed::count_failure;
 use crate::tcp_link::Link;
@@ -20,7 +20,7 @@ pub struct TcpNet<R> {
     rt: R,
     listener: Option<TcpListener>,
     link: Option<Link>,
-    is_out: bool,
+    has_open_link: bool,
     faults: u64,
 }
 
@@ -31,7 +31,7 @@ where
     /// Creates a listener without an address.
     pub fn new(rt: R) -> Self
         ensures faults { failed_listens_of result ≡ 0 }
-        ensures out { hands_out result ≡ false }
+        ensures out { link_is_open result ≡ false }
         ensures coming { ⟦<TcpNet<R> as Listener>⟧.coming result ≡ None }
         ensures closed { ⟦<TcpNet<R> as Listener>⟧.closed result ≡ None }
     {
@@ -39,14 +39,14 @@ where
             rt,
             listener: None,
             link: None,
-            is_out: false,
+            has_open_link: false,
             faults: 0,
         }
     }
 
     // Listens on this address. The slot for connections is allocated once.
     fn listen(&mut self, address: &str) -> io::Result<()>
-        ensures out { hands_out self.new ≡ hands_out self.old }
+        ensures out { link_is_open self.new ≡ link_is_open self.old }
         ensures faults { failed_listens_of self.new ≡ failed_listens_of self.old }
     {
         let listener = TcpListener::bind(&self.rt, address)?;
@@ -98,14 +98,14 @@ where
 
     ghost closed = { λ _. None };
 
-    ghost is_out = { hands_out };
+    ghost has_open_link = { link_is_open };
 
     /// The address is a host and a port, such as `localhost:7379`.
     fn open(&mut self, address: &str) -> Result<(), Failed>
-        ensures out { hands_out self.new ≡ hands_out self.old }
+        ensures out { link_is_open self.new ≡ link_is_open self.old }
         ensures cause { HasCause (failed_listens_of self.old) (failed_listens_of self.new) result }
         ensures ok { OnOk result (failed_listens_of self.new ≡ failed_listens_of self.old) }
-        ensures err { OnErr result (failed_listens_of self.new ≡ counted (failed_listens_of self.old)) }
+        ensures err { OnErr result (failed_listens_of self.new ≡ saturating_succ (failed_listens_of self.old)) }
     {
         match self.listen(address) {
             Ok(()) => Ok(()),
@@ -115,15 +115,15 @@ where
 
     /// Waits for the next connection. Fails if it is not listening.
     fn accept(&mut self) -> Result<Ends<StdSource<TcpReader>, StdSink<TcpWriter>>, Failed>
-        requires { hands_out self.old ≡ false }
-        ensures out { hands_out self.new ≡ is_ok result }
+        requires { link_is_open self.old ≡ false }
+        ensures out { link_is_open self.new ≡ is_ok result }
         ensures cause { HasCause (failed_listens_of self.old) (failed_listens_of self.new) result }
         ensures ok { OnOk result (failed_listens_of self.new ≡ failed_listens_of self.old) }
-        ensures err { OnErr result (failed_listens_of self.new ≡ counted (failed_listens_of self.old)) }
+        ensures err { OnErr result (failed_listens_of self.new ≡ saturating_succ (failed_listens_of self.old)) }
     {
         match self.next_link() {
             Ok(ends) => {
-                self.is_out = true;
+                self.has_open_link = true;
                 Ok(ends)
             }
             Err(_) => Err(count_failure(&mut self.faults)),
@@ -131,12 +131,12 @@ where
     }
 
     fn close(&mut self, ends: Ends<StdSource<TcpReader>, StdSink<TcpWriter>>)
-        requires { hands_out self.old ≡ true }
-        ensures out { hands_out self.new ≡ false }
+        requires { link_is_open self.old ≡ true }
+        ensures out { link_is_open self.new ≡ false }
         ensures faults { failed_listens_of self.new ≡ failed_listens_of self.old }
     {
         drop(ends);
         self.end_link();
-        self.is_out = false;
+        self.has_open_link = false;
     }
 }

@@ -5,10 +5,10 @@ use std::alloc::Global;
 use std::marker::Model;
 
 /// The capacity of the queue: 64 MiB.
-const MOST_WAITING: usize = 67_108_864;
+const MAX_WAITING_BYTES: usize = 67_108_864;
 
 /// The largest buffer that an empty queue keeps, in bytes.
-const MOST_SPARE: usize = 65536;
+const MAX_IDLE_BYTES: usize = 65536;
 
 /// The queue can't take more bytes: its limit is reached, or memory ran out.
 #[derive(Clone, Copy)]
@@ -69,11 +69,11 @@ impl Waiting {
         ensures limit { OnOk result (length self.new ≤ 2 ^ 26) }
         ensures unchanged { OnErr result (self.new ≡ self.old) }
     {
-        if self.len().saturating_add(bytes.len()) > MOST_WAITING {
+        if self.len().saturating_add(bytes.len()) > MAX_WAITING_BYTES {
             return Err(Full);
         }
         if self.sent >= self.len() {
-            self.forget_sent();
+            self.compact();
         }
         match self.bytes.extend_from_slice(bytes) {
             Ok(()) => Ok(()),
@@ -88,13 +88,13 @@ impl Waiting {
     {
         self.sent += count;
         if self.sent == self.bytes.len() {
-            self.forget_sent();
-            self.bytes.shrink_to(MOST_SPARE);
+            self.compact();
+            self.bytes.shrink_to(MAX_IDLE_BYTES);
         }
     }
 
     // Moves the queued bytes to the start of the buffer.
-    fn forget_sent(&mut self)
+    fn compact(&mut self)
         ensures { self.new ≡ self.old }
     {
         self.bytes.drain(..self.sent);

@@ -11,8 +11,8 @@ use Rattle.ts_spec.specs.Settings.{Word}
 use Rattle.ts_spec.specs.Text.{Reply, Simple, Error, Int, Value, Bulk, Nil, Array, Replies, Empty, Item, CRLF, count_of, line_text, text, texts, IsOneLine}
 use Rattle.ts_spec.proofs.OneLine.{AreDigits-decimal, IsOneLine-digits, IsOneLine-signed}
 use Rattle.ts_journal.specs.Fixed.{triple_text}
-use Rattle.ts_journal.specs.Lines.{after_line, items_text, begins_error, taken_by, taken_text, joined, words_in}
-use Rattle.ts_journal.specs.Record.{AreTold, items_of, is_error, taken, triple_words, sample_words, with_name, bytes_of, record_of}
+use Rattle.ts_journal.specs.Lines.{after_line, items_text, begins_error, accepted_pieces, accepted_text, joined, words_in}
+use Rattle.ts_journal.specs.Record.{AreMaddItems, items_of, is_error, accepted_part, triple_words, sample_words, with_name, bytes_of, record_of}
 
 -- ---- lines
 
@@ -40,22 +40,22 @@ items-of (Array items) = after-cr (decimal (count_of items)) (texts items) (IsOn
 
 -- ---- the pieces that are taken
 
-none-taken : (pieces : List (List ℕ)) → taken_by [] pieces ≡ []
-none-taken [] = refl
-none-taken (piece ∷ pieces) = none-taken pieces
+none-accepted_part : (pieces : List (List ℕ)) → accepted_pieces [] pieces ≡ []
+none-accepted_part [] = refl
+none-accepted_part (piece ∷ pieces) = none-accepted_part pieces
 
-pub taken-triples : (f : Triple → List ℕ) (ts : List Triple) (items : Replies) → AreTold items → taken_by (texts items) (map f ts) ≡ map f (taken ts items)
-taken-triples f [] items h = refl
-taken-triples f (t ∷ ts) Empty h = none-taken (map f ts)
-taken-triples f (t ∷ ts) (Item (Int n) items) h =
-    ap (λ ps. f t ∷ ps) (ap (λ l. taken_by l (map f ts)) (after-cr (signed_decimal n) (texts items) (IsOneLine-signed n)) ∙ taken-triples f ts items h)
-taken-triples f (t ∷ ts) (Item (Error words) items) h =
-    ap (λ l. taken_by l (map f ts)) (after-cr words (texts items) h.0) ∙ taken-triples f ts items h.1
-taken-triples f (t ∷ ts) (Item (Simple words) items) h = absurd h
-taken-triples f (t ∷ ts) (Item (Value cell) items) h = absurd h
-taken-triples f (t ∷ ts) (Item (Bulk bytes) items) h = absurd h
-taken-triples f (t ∷ ts) (Item Nil items) h = absurd h
-taken-triples f (t ∷ ts) (Item (Array others) items) h = absurd h
+pub accepted_part-triples : (f : Triple → List ℕ) (ts : List Triple) (items : Replies) → AreMaddItems items → accepted_pieces (texts items) (map f ts) ≡ map f (accepted_part ts items)
+accepted_part-triples f [] items h = refl
+accepted_part-triples f (t ∷ ts) Empty h = none-accepted_part (map f ts)
+accepted_part-triples f (t ∷ ts) (Item (Int n) items) h =
+    ap (λ ps. f t ∷ ps) (ap (λ l. accepted_pieces l (map f ts)) (after-cr (signed_decimal n) (texts items) (IsOneLine-signed n)) ∙ accepted_part-triples f ts items h)
+accepted_part-triples f (t ∷ ts) (Item (Error words) items) h =
+    ap (λ l. accepted_pieces l (map f ts)) (after-cr words (texts items) h.0) ∙ accepted_part-triples f ts items h.1
+accepted_part-triples f (t ∷ ts) (Item (Simple words) items) h = absurd h
+accepted_part-triples f (t ∷ ts) (Item (Value cell) items) h = absurd h
+accepted_part-triples f (t ∷ ts) (Item (Bulk bytes) items) h = absurd h
+accepted_part-triples f (t ∷ ts) (Item Nil items) h = absurd h
+accepted_part-triples f (t ∷ ts) (Item (Array others) items) h = absurd h
 
 -- ---- their words
 
@@ -97,19 +97,19 @@ named (word ∷ words) =
     let n : suc (suc (length words)) ≡ suc (length words) + 1 = omega arith in
     rw (ne_eqb (suc (length words)) 0 (λ e. omega arith)) (ap (λ m. line_text 42 (decimal m) ++ (encoded_word (codes "TS.MADD") ++ encoded_words (word ∷ words))) n)
 
-text-triples : (reading : ℕ) (ts : List Triple) → taken_text (map (triple_text reading) ts) ≡ bytes_of (with_name (codes "TS.MADD") (flat_map (triple_words reading) ts))
+text-triples : (reading : ℕ) (ts : List Triple) → accepted_text (map (triple_text reading) ts) ≡ bytes_of (with_name (codes "TS.MADD") (flat_map (triple_words reading) ts))
 text-triples reading ts =
     ap (λ n. if n == 0 then [] else line_text 42 (decimal (n + 1)) ++ (encoded_word (codes "TS.MADD") ++ joined (map (triple_text reading) ts))) (words-triples reading ts)
     ∙ ap (λ l. if length (flat_map (triple_words reading) ts) == 0 then [] else line_text 42 (decimal (length (flat_map (triple_words reading) ts) + 1)) ++ (encoded_word (codes "TS.MADD") ++ l)) (joined-triples reading ts)
     ∙ sym (named (flat_map (triple_words reading) ts))
 
 -- the record of TS.MADD from the texts of its triples
-pub record-of-triples : (reading : ℕ) (ts : List Triple) (reply : Reply) → AreTold (items_of reply)
-    → (if begins_error (text reply) then [] else taken_text (taken_by (items_text (text reply)) (map (triple_text reading) ts))) ≡ record_of (Madd ts) reading reply
+pub record-of-triples : (reading : ℕ) (ts : List Triple) (reply : Reply) → AreMaddItems (items_of reply)
+    → (if begins_error (text reply) then [] else accepted_text (accepted_pieces (items_text (text reply)) (map (triple_text reading) ts))) ≡ record_of (Madd ts) reading reply
 record-of-triples reading ts reply h =
     let items = items_of reply in
-    let those : taken_by (items_text (text reply)) (map (triple_text reading) ts) ≡ map (triple_text reading) (taken ts items) =
-    ap (λ l. taken_by l (map (triple_text reading) ts)) (items-of reply) ∙ taken-triples (triple_text reading) ts items h in
-    ap (λ b. if b then [] else taken_text (taken_by (items_text (text reply)) (map (triple_text reading) ts))) (is-error reply)
-    ∙ ap (λ ps. if is_error reply then [] else taken_text ps) those
-    ∙ ap (λ l. if is_error reply then [] else l) (text-triples reading (taken ts items))
+    let those : accepted_pieces (items_text (text reply)) (map (triple_text reading) ts) ≡ map (triple_text reading) (accepted_part ts items) =
+    ap (λ l. accepted_pieces l (map (triple_text reading) ts)) (items-of reply) ∙ accepted_part-triples (triple_text reading) ts items h in
+    ap (λ b. if b then [] else accepted_text (accepted_pieces (items_text (text reply)) (map (triple_text reading) ts))) (is-error reply)
+    ∙ ap (λ ps. if is_error reply then [] else accepted_text ps) those
+    ∙ ap (λ l. if is_error reply then [] else l) (text-triples reading (accepted_part ts items))

@@ -14,7 +14,7 @@ use Rattle.ts_spec.specs.Text.{Reply, Replies, Empty}
 use Rattle.ts_spec.specs.Text as text
 use Rattle.ts_spec.specs.Value.{value, shown_value}
 use Rattle.ts_spec.specs.Value as value_
-use Rattle.ts_journal.specs.Record.{on_duplicate_words, label_pairs, sample_words, triple_words, with_name, items_of, is_number, taken, accepted, record_words}
+use Rattle.ts_journal.specs.Record.{on_duplicate_words, label_pairs, sample_words, triple_words, with_name, items_of, is_number, accepted_part, accepted, record_words}
 use Rattle.ts_journal.proofs.Among.{IsAmong, series-among, alter-among, add-among, incr-among}
 use Rattle.ts_journal.proofs.Costs.{Costs, costs-then, costs-none, costs-two, costs-same, costs-more, costs-first, costs-among}
 use Rattle.ts_journal.proofs.Lengths.{length-number, length-value}
@@ -107,18 +107,18 @@ sample-cost reading key time amount (Ok at) (Ok v) early one small other = pair
 sample-cost reading key time amount (Ok at) (Err fault) early one small other = costs-none (key ∷ time ∷ amount ∷ [])
 sample-cost reading key time amount (Err fault) v early one small other = costs-none (key ∷ time ∷ amount ∷ [])
 
-taken-cost : (reading : ℕ) (words : List Word) (replies : Replies) → Costs (flat_map (triple_words reading) (taken (triples words) replies)) words 0 0
-taken-cost reading [] replies = costs-none []
-taken-cost reading (key ∷ []) replies = costs-none (key ∷ [])
-taken-cost reading (key ∷ time ∷ []) replies = costs-none (key ∷ time ∷ [])
-taken-cost reading (key ∷ time ∷ amount ∷ words) Empty = costs-none (key ∷ time ∷ amount ∷ words)
-taken-cost reading (key ∷ time ∷ amount ∷ words) (text.Replies.Item reply replies) = go (is_number reply) (taken-cost reading words replies)
+accepted_part-cost : (reading : ℕ) (words : List Word) (replies : Replies) → Costs (flat_map (triple_words reading) (accepted_part (triples words) replies)) words 0 0
+accepted_part-cost reading [] replies = costs-none []
+accepted_part-cost reading (key ∷ []) replies = costs-none (key ∷ [])
+accepted_part-cost reading (key ∷ time ∷ []) replies = costs-none (key ∷ time ∷ [])
+accepted_part-cost reading (key ∷ time ∷ amount ∷ words) Empty = costs-none (key ∷ time ∷ amount ∷ words)
+accepted_part-cost reading (key ∷ time ∷ amount ∷ words) (text.Replies.Item reply replies) = go (is_number reply) (accepted_part-cost reading words replies)
   where
     t : Triple
     t = record { key = key; at = at_word time; value = value_word amount }
 
-    go : (b : Bool) → Costs (flat_map (triple_words reading) (taken (triples words) replies)) words 0 0
-        → Costs (flat_map (triple_words reading) (if b then t ∷ taken (triples words) replies else taken (triples words) replies)) (key ∷ time ∷ amount ∷ words) 0 0
+    go : (b : Bool) → Costs (flat_map (triple_words reading) (accepted_part (triples words) replies)) words 0 0
+        → Costs (flat_map (triple_words reading) (if b then t ∷ accepted_part (triples words) replies else accepted_part (triples words) replies)) (key ∷ time ∷ amount ∷ words) 0 0
     go true others =
         costs-then {vs = key ∷ time ∷ amount ∷ []} (sample-cost reading key time amount (at_word time) (value_word amount) (at-small time) (at-some time) (value-bounded amount) (value-some amount)) others
     go false others = costs-first key (costs-first time (costs-first amount others))
@@ -128,7 +128,7 @@ with_name-cost [] words h = no-record words
 with_name-cost (word ∷ put) words h = costs-more 32 512 (costs-then (named-cost (codes "TS.MADD") 7 refl (omega arith)) h) (omega arith) (omega arith)
 
 pub madd-costed : (words : List Word) → IfOk (madd words) (Costed words)
-madd-costed words = λ reading reply. with_name-cost _ words (taken-cost reading words (items_of reply))
+madd-costed words = λ reading reply. with_name-cost _ words (accepted_part-cost reading words (items_of reply))
 
 -- ---- without options
 

@@ -10,7 +10,7 @@ use Rattle.std.specs.List.{slice_split, onto_first}
 use Rattle.std.specs.Prelude.{slice_index}
 use Rattle.ts_spec.specs.declared.wire.WireLimits.{WireLimits}
 use Rattle.ts_spec.specs.Encoded.{Fits, encoded}
-use Rattle.ts_spec.specs.Fronts.{IsWithin}
+use Rattle.ts_spec.specs.StreamPrefixes.{IsWithin}
 use Rattle.ts_spec.specs.Settings.{Word}
 use Rattle.ts_spec.specs.Text.{Reply}
 use Rattle.ts_spec.specs.Wire.{Request, Ended, RETURN, is_blank, text_of_line, stream_at, requests_of, ending_of}

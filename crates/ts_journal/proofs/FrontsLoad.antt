@@ -3,10 +3,10 @@ use Rattle.std.proofs.Common.{◌≡◌, ℕ, ◌≤◌, List, length, take, dro
 use Rattle.std.proofs.lemmas.List.{take_all, length-take, length-take-le}
 use Rattle.ts_spec.specs.declared.limits.Limits.{Limits}
 use Rattle.ts_spec.specs.declared.wire.WireLimits.{WireLimits}
-use Rattle.ts_spec.specs.Fronts.{IsFront}
+use Rattle.ts_spec.specs.StreamPrefixes.{IsStreamPrefix}
 use Rattle.ts_spec.specs.State.{State, empty}
 use Rattle.ts_spec.specs.Wire.{Stream, Then, Ended, Inside, Broken, Start, stream_at, ending_of}
-use Rattle.ts_spec.proofs.Fronts.{read_on-front}
+use Rattle.ts_spec.proofs.StreamPrefixes.{read_on-front}
 use Rattle.ts_journal.specs.Limits.{journal_limits}
 use Rattle.ts_journal.specs.Loading.{Loads, BreaksAt, load_on, load, FrontLoads}
 use Rattle.ts_journal.proofs.Loads.{loads-next, next-loads, loads-end, load-within}
@@ -14,7 +14,7 @@ use Rattle.ts_journal.proofs.Unfinished.{finished, unfinished}
 
 -- ---- any front
 
-front-loads : (limits : Limits) (m : State) (before size total : ℕ) (stream other : Stream) (n : State) (place : ℕ) → IsFront stream other
+front-loads : (limits : Limits) (m : State) (before size total : ℕ) (stream other : Stream) (n : State) (place : ℕ) → IsStreamPrefix stream other
     → load_on limits m before total other ≡ Loads n place → (mid : State) × (at : ℕ) × (load_on limits m before size stream ≡ Loads mid at)
 front-loads limits m before size total (Then request after rest) other n place front e =
     let next = loads-next limits m before total request after front.0 n place (sym (ap (load_on limits m before total) front.1) ∙ e) in
@@ -29,8 +29,8 @@ front-loads limits m before size total (Broken kind at) other n place front e =
 pub fronts-load : (limits : Limits) (bytes : List ℕ) (m : State) (place : ℕ) → load limits bytes ≡ Loads m place → (n : ℕ) → FrontLoads limits bytes n
 fronts-load limits bytes m place e n =
     let within : WireLimits = journal_limits limits.wire in
-    let front : IsFront (stream_at within 0 (take n bytes)) (stream_at within 0 bytes) =
-    subst (λ (all : List ℕ). IsFront (stream_at within 0 (take n bytes)) (stream_at within 0 all)) (take-append-drop n bytes) (read_on-front within 0 0 Start (take n bytes) (drop n bytes)) in
+    let front : IsStreamPrefix (stream_at within 0 (take n bytes)) (stream_at within 0 bytes) =
+    subst (λ (all : List ℕ). IsStreamPrefix (stream_at within 0 (take n bytes)) (stream_at within 0 all)) (take-append-drop n bytes) (read_on-front within 0 0 Start (take n bytes) (drop n bytes)) in
     let all = front-loads limits empty 0 (length (take n bytes)) (length bytes) (stream_at within 0 (take n bytes)) (stream_at within 0 bytes) m place front e in record {
       state = all.0;
       place = all.1;

@@ -6,10 +6,10 @@ use Rattle.ts_spec.specs.declared.limits.Limits.{Limits}
 use Rattle.ts_spec.specs.declared.wire.WireLimits.{WireLimits}
 use Rattle.ts_spec.specs.Command.{Command, Create, Alter, Add, Madd, Incr, DelRange, CreateRule, DeleteRule, Range, MRange, Get, MGet, QueryIndex, InfoOf, Ping, Echo, Quit, Drop, Exists}
 use Rattle.ts_spec.specs.Encoded.{encoded_request, Fits}
-use Rattle.ts_spec.specs.Fronts.{IsWithin}
+use Rattle.ts_spec.specs.StreamPrefixes.{IsWithin}
 use Rattle.ts_spec.specs.Grammar.{command, needs_clock}
 use Rattle.ts_spec.specs.Replies.{reply_to}
-use Rattle.ts_spec.specs.Resolved.{resolved}
+use Rattle.ts_spec.specs.ResolvedCommands.{resolved}
 use Rattle.ts_spec.specs.State.{State}
 use Rattle.ts_spec.specs.Step.{Outcome, step}
 use Rattle.ts_spec.specs.Text.{Reply}
@@ -17,9 +17,9 @@ use Rattle.ts_spec.specs.Wire.{Request, Stream, Then, Ended, Inside, Broken, str
 use Rattle.ts_spec.proofs.ReadBack.{requests-encoded}
 use Rattle.ts_spec.proofs.ResolvedTimes.{no-clock}
 use Rattle.ts_journal.specs.Limits.{IsBounded, journal_limits}
-use Rattle.ts_journal.specs.Loading.{Loads, accepted_state, replayed, replayed_by, on_or, load_on, load, LoadsTo}
+use Rattle.ts_journal.specs.Loading.{Loads, accepted_state, apply_recorded, apply_recorded_request, continue_or_break, load_on, load, LoadsTo}
 use Rattle.ts_journal.specs.Record.{is_change, items_of, accepted, bytes_of, record_words, record_of}
-use Rattle.ts_journal.specs.Replay.{IsRecorded, IsAccepted, has_error}
+use Rattle.ts_journal.specs.RecordReplay.{IsRecorded, IsAccepted, has_error}
 use Rattle.ts_journal.proofs.Almost.{torn-inside}
 use Rattle.ts_journal.proofs.Fitting.{record-fits}
 use Rattle.ts_journal.proofs.Loads.{load-more}
@@ -53,21 +53,21 @@ state-accepted done h =
     ap (λ b. if not (b || has_error (items_of (reply_to done.response))) then Some done.state else None) h.0
     ∙ ap (λ b. if not b then Some done.state else None) h.1
 
-replayed-so : (limits : Limits) (m n : State) (c : Command) → is_change c ≡ true → needs_clock c ≡ false
-    → IsAccepted (reply_to (step limits m 0 c).response) → (step limits m 0 c).state ≡ n → replayed limits m c ≡ Some n
-replayed-so limits m n c change clock right state =
+apply_recorded-so : (limits : Limits) (m n : State) (c : Command) → is_change c ≡ true → needs_clock c ≡ false
+    → IsAccepted (reply_to (step limits m 0 c).response) → (step limits m 0 c).state ≡ n → apply_recorded limits m c ≡ Some n
+apply_recorded-so limits m n c change clock right state =
     ap (λ b. if b && not (needs_clock c) then accepted_state (step limits m 0 c) else None) change
     ∙ ap (λ b. if not b then accepted_state (step limits m 0 c) else None) clock
     ∙ state-accepted (step limits m 0 c) right
     ∙ ap Some state
 
-pub record-replayed : (limits : Limits) (reading : ℕ) (c : Command) (m n : State) (reply : Reply) → IsRecorded limits reading c m reply n
-    → replayed_by limits m (command (record_words reading (accepted c reply))) ≡ Some n
-record-replayed limits reading c m n reply r =
+pub record-apply_recorded : (limits : Limits) (reading : ℕ) (c : Command) (m n : State) (reply : Reply) → IsRecorded limits reading c m reply n
+    → apply_recorded_request limits m (command (record_words reading (accepted c reply))) ≡ Some n
+record-apply_recorded limits reading c m n reply r =
     let change : Command = resolved reading (accepted c reply) in
     let all = replays limits reading 0 c m n reply r.done r.some in
-    ap (replayed_by limits m) (words-read limits reading c m n reply r)
-    ∙ replayed-so limits m n change (changes reading (accepted c reply) (some-words c reading reply r.some)) (no-clock reading (accepted c reply)) all.reply all.state
+    ap (apply_recorded_request limits m) (words-read limits reading c m n reply r)
+    ∙ apply_recorded-so limits m n change (changes reading (accepted c reply) (some-words c reading reply r.some)) (no-clock reading (accepted c reply)) all.reply all.state
 
 -- ---- its bytes
 
@@ -111,7 +111,7 @@ pub record Grows (limits : Limits) (bytes : List ℕ) (old new : State) (more : 
   pub torn : (n : ℕ) → n < length more → load limits (bytes ++ take n more) ≡ Loads old (length bytes)
 
 grown : (limits : Limits) (bytes : List ℕ) (old new : State) (words : Request) → IsBounded limits.wire → LoadsTo limits bytes old → Fits (journal_limits limits.wire) words
-    → replayed_by limits old (command words) ≡ Some new → Grows limits bytes old new (encoded_request words)
+    → apply_recorded_request limits old (command words) ≡ Some new → Grows limits bytes old new (encoded_request words)
 grown limits bytes old new words b e fits does = record {
   whole =
       let request = request-alone within words (length bytes) few short fits in
@@ -119,7 +119,7 @@ grown limits bytes old new words b e fits does = record {
       let total = length (bytes ++ encoded_request words) in
       more.1
       ∙ ap (load_on limits old more.0 total) request.1
-      ∙ ap (λ o. on_or o more.0 (λ n. Loads n total)) does;
+      ∙ ap (λ o. continue_or_break o more.0 (λ n. Loads n total)) does;
   torn = part;
 }
   where
@@ -154,4 +154,4 @@ record-grown limits bytes reading c old new reply b e r within =
       some = some-words c reading reply r.some;
     }) in
     subst (Grows limits bytes old new) (sym (record-encoded c reading reply r.some))
-    (grown limits bytes old new words b e fits (record-replayed limits reading c old new reply r))
+    (grown limits bytes old new words b e fits (record-apply_recorded limits reading c old new reply r))

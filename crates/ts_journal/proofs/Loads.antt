@@ -3,13 +3,13 @@ use Rattle.std.proofs.Common.{◌≡◌, ℕ, ◌+◌, ◌≤◌, List, ◌++◌
 use Rattle.std.specs.Prelude.{◌⊎◌, Option, None, Some}
 use Rattle.ts_spec.specs.declared.limits.Limits.{Limits}
 use Rattle.ts_spec.specs.declared.wire.WireLimits.{WireLimits}
-use Rattle.ts_spec.specs.Fronts.{then_on}
+use Rattle.ts_spec.specs.StreamPrefixes.{continued_by}
 use Rattle.ts_spec.specs.Grammar.{command}
 use Rattle.ts_spec.specs.State.{State, empty}
 use Rattle.ts_spec.specs.Wire.{Request, Stream, Then, Ended, Inside, Broken, Start, stream_at, ending_of}
 use Rattle.ts_spec.proofs.Concatenation.{concatenated}
 use Rattle.ts_journal.specs.Limits.{journal_limits}
-use Rattle.ts_journal.specs.Loading.{Loads, replayed_by, on_or, load_on, load, LoadsTo}
+use Rattle.ts_journal.specs.Loading.{Loads, apply_recorded_request, continue_or_break, load_on, load, LoadsTo}
 use Rattle.ts_journal.proofs.Unfinished.{unfinished}
 
 -- ---- a request, and those after it
@@ -17,21 +17,21 @@ use Rattle.ts_journal.proofs.Unfinished.{unfinished}
 -- it leads to a state, from which the others load
 pub record IsNext (limits : Limits) (m : State) (request : Request) (after size : ℕ) (rest : Stream) (n : State) (place : ℕ) : Type 0 where
   pub mid : State
-  pub does : replayed_by limits m (command request) ≡ Some mid
+  pub does : apply_recorded_request limits m (command request) ≡ Some mid
   pub on : load_on limits mid after size rest ≡ Loads n place
 
 pub loads-next : (limits : Limits) (m : State) (before size : ℕ) (request : Request) (after : ℕ) (rest : Stream) (n : State) (place : ℕ)
     → load_on limits m before size (Then request after rest) ≡ Loads n place → IsNext limits m request after size rest n place
-loads-next limits m before size request after rest n place e = go (replayed_by limits m (command request)) refl e
+loads-next limits m before size request after rest n place e = go (apply_recorded_request limits m (command request)) refl e
   where
-    go : (o : Option State) → replayed_by limits m (command request) ≡ o → on_or o before (λ mid. load_on limits mid after size rest) ≡ Loads n place
+    go : (o : Option State) → apply_recorded_request limits m (command request) ≡ o → continue_or_break o before (λ mid. load_on limits mid after size rest) ≡ Loads n place
         → IsNext limits m request after size rest n place
     go None its e = absurd cc
     go (Some mid) its e = record { mid = mid; does = its; on = e }
 
 pub next-loads : (limits : Limits) (m : State) (before size : ℕ) (request : Request) (after : ℕ) (rest : Stream) (mid : State)
-    → replayed_by limits m (command request) ≡ Some mid → load_on limits m before size (Then request after rest) ≡ load_on limits mid after size rest
-next-loads limits m before size request after rest mid e = ap (λ o. on_or o before (λ mid. load_on limits mid after size rest)) e
+    → apply_recorded_request limits m (command request) ≡ Some mid → load_on limits m before size (Then request after rest) ≡ load_on limits mid after size rest
+next-loads limits m before size request after rest mid e = ap (λ o. continue_or_break o before (λ mid. load_on limits mid after size rest)) e
 
 -- ---- where a stream ends that loads
 
@@ -66,18 +66,18 @@ loads-ended limits bytes m e =
 -- ---- more bytes
 
 -- requests, and more after them
-loads-then_on : (limits : Limits) (m : State) (before size total : ℕ) (stream rest : Stream) (n : State) (place : ℕ) → ending_of stream ≡ Ended
+loads-continued_by : (limits : Limits) (m : State) (before size total : ℕ) (stream rest : Stream) (n : State) (place : ℕ) → ending_of stream ≡ Ended
     → load_on limits m before size stream ≡ Loads n place
-    → (last : ℕ) × (load_on limits m before total (then_on stream rest) ≡ load_on limits n last total rest)
-loads-then_on limits m before size total (Then request after others) rest n place ended e =
+    → (last : ℕ) × (load_on limits m before total (continued_by stream rest) ≡ load_on limits n last total rest)
+loads-continued_by limits m before size total (Then request after others) rest n place ended e =
     let next = loads-next limits m before size request after others n place e in
-    let more = loads-then_on limits next.mid after size total others rest n place ended next.on in
-    (more.0, next-loads limits m before total request after (then_on others rest) next.mid next.does ∙ more.1)
-loads-then_on limits m before size total Ended rest n place ended e =
+    let more = loads-continued_by limits next.mid after size total others rest n place ended next.on in
+    (more.0, next-loads limits m before total request after (continued_by others rest) next.mid next.does ∙ more.1)
+loads-continued_by limits m before size total Ended rest n place ended e =
     let same : m ≡ n = cc in
     (before, ap (λ m. load_on limits m before total rest) same)
-loads-then_on limits m before size total (Inside begin) rest n place ended e = absurd cc
-loads-then_on limits m before size total (Broken kind at) rest n place ended e = absurd cc
+loads-continued_by limits m before size total (Inside begin) rest n place ended e = absurd cc
+loads-continued_by limits m before size total (Broken kind at) rest n place ended e = absurd cc
 
 -- a journal, and more after it
 pub load-more : (limits : Limits) (bytes more : List ℕ) (m : State) → LoadsTo limits bytes m
@@ -87,9 +87,9 @@ load-more limits bytes more m e =
     let total = length (bytes ++ more) in
     let ended = loads-ended limits bytes m e in
     let there : 0 + length bytes ≡ length bytes = omega arith in
-    let all = loads-then_on limits empty 0 (length bytes) total (stream_at within 0 bytes) (stream_at within (length bytes) more) m (length bytes) ended e in (
+    let all = loads-continued_by limits empty 0 (length bytes) total (stream_at within 0 bytes) (stream_at within (length bytes) more) m (length bytes) ended e in (
       all.0,
       ap (load_on limits empty 0 total)
-          (concatenated within 0 0 Start bytes more refl ended ∙ ap (λ place. then_on (stream_at within 0 bytes) (stream_at within place more)) there)
+          (concatenated within 0 0 Start bytes more refl ended ∙ ap (λ place. continued_by (stream_at within 0 bytes) (stream_at within place more)) there)
           ∙ all.1,
     )

@@ -20,7 +20,7 @@ use Rattle.ts_spec.specs.Settings.{Word, Setting}
 use Rattle.ts_spec.specs.State.{Label}
 use Rattle.ts_spec.specs.Value.{shown_value}
 use Rattle.ts_journal.specs.Record as record_
-use Rattle.ts_journal.specs.Record.{encoding_name, policy_name, retention_words, encoding_words, chunk_size_words, policy_words, on_duplicate_words, ignore_words, label_pairs, labels_words, spec_words, change_words, sample_words, triple_words, with_name, items_of, is_number, taken, accepted, record_words}
+use Rattle.ts_journal.specs.Record.{encoding_name, policy_name, retention_words, encoding_words, chunk_size_words, policy_words, on_duplicate_words, ignore_words, label_pairs, labels_words, spec_words, change_words, sample_words, triple_words, with_name, items_of, is_number, accepted_part, accepted, record_words}
 use Rattle.ts_journal.proofs.Among.{IsAmong}
 use Rattle.ts_journal.proofs.Costs.{Costs, costs-then, costs-none, costs-own, costs-more, costs-among}
 use Rattle.ts_journal.proofs.Lengths.{length-number, length-value}

@@ -142,8 +142,8 @@ pub labels-read : (known : Table Setting) → Knows known → (given : Given) �
     → options known given 0 (labels_words ls) ≡ Ok (record given { labels = Some ls })
 labels-read known k given new ls h =
     let own : count_pairs (is_known known) (label_pairs ls) ≡ length (label_pairs ls) = pairs-counted (is_known known) ls h.each in
-    let taken : take (count_pairs (is_known known) (label_pairs ls)) (label_pairs ls) ≡ label_pairs ls =
+    let accepted_part : take (count_pairs (is_known known) (label_pairs ls)) (label_pairs ls) ≡ label_pairs ls =
     ap (λ n. take n (label_pairs ls)) own ∙ take-all (label_pairs ls) in
     let said : labels.says (take (count_pairs (is_known known) (label_pairs ls)) (label_pairs ls)) given ≡ Ok (record given { labels = Some ls }) =
-    ap (λ ws. labels.says ws given) taken ∙ ap (λ r. and_then r (λ ms. Ok (record given { labels = Some ms }))) (pairs-read (is_known known) [] ls h.each h.once) in
+    ap (λ ws. labels.says ws given) accepted_part ∙ ap (λ r. and_then r (λ ms. Ok (record given { labels = Some ms }))) (pairs-read (is_known known) [] ls h.each h.once) in
     rw (k.labels, new, said, own) (passed-over known (record given { labels = Some ls }) (label_pairs ls))

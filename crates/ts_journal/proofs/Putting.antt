@@ -6,16 +6,16 @@ use Rattle.ts_spec.specs.State.{Label}
 use Rattle.ts_spec.specs.Text.{line_text}
 use Rattle.ts_spec.specs.Wire.{Request}
 use Rattle.ts_journal.specs.declared.draft.Draft.{Draft}
-use Rattle.ts_journal.specs.Draft.{Puts, Has}
+use Rattle.ts_journal.specs.Draft.{AppendsWords, HasWords}
 use Rattle.ts_journal.specs.Record.{label_pairs}
 use Rattle.ts_journal.proofs.Accepted.{encoded-append}
 
 -- nothing was put
-pub puts-none : (d : Draft) → Puts d d []
+pub puts-none : (d : Draft) → AppendsWords d d []
 puts-none d = record { bytes = sym (append-nil d.out.bytes); count = omega arith }
 
 -- some words were put, and then others
-pub puts-then : {a b c : Draft} {xs ys : Request} → Puts a b xs → Puts b c ys → Puts a c (xs ++ ys)
+pub puts-then : {a b c : Draft} {xs ys : Request} → AppendsWords a b xs → AppendsWords b c ys → AppendsWords a c (xs ++ ys)
 puts-then {a} {b} {c} {xs} {ys} p q = record {
   bytes = q.bytes
       ∙ ap (λ (l : List ℕ). l ++ encoded_words ys) p.bytes
@@ -25,7 +25,7 @@ puts-then {a} {b} {c} {xs} {ys} p q = record {
 }
 
 -- more words were put
-pub has-more : {a b : Draft} {xs ys : Request} → Has xs a → Puts a b ys → Has (xs ++ ys) b
+pub has-more : {a b : Draft} {xs ys : Request} → HasWords xs a → AppendsWords a b ys → HasWords (xs ++ ys) b
 has-more {a} {b} {xs} {ys} h p = record {
   bytes = p.bytes
       ∙ ap (λ (l : List ℕ). l ++ encoded_words ys) h.bytes
@@ -34,15 +34,15 @@ has-more {a} {b} {xs} {ys} h p = record {
   count = omega (arith, p.count, h.count, length-append xs ys);
 }
 
-pub has-gap : {words : Request} {d : Draft} → Has words d → 24 ≤ length d.out.bytes
+pub has-gap : {words : Request} {d : Draft} → HasWords words d → 24 ≤ length d.out.bytes
 has-gap {words} {d} h = omega (arith, ap length h.bytes, length-append (replicate 24 0) (encoded_words words))
 
 -- what stands behind the gap
-pub behind-gap : {words : Request} {d : Draft} → Has words d → drop 24 d.out.bytes ≡ encoded_words words
+pub behind-gap : {words : Request} {d : Draft} → HasWords words d → drop 24 d.out.bytes ≡ encoded_words words
 behind-gap {words} {d} h = ap (drop 24) h.bytes
 
 -- the whole request
-pub closed : {words : Request} {d : Draft} → Has words d → line_text 42 (decimal d.words) ++ drop 24 d.out.bytes ≡ encoded_request words
+pub closed : {words : Request} {d : Draft} → HasWords words d → line_text 42 (decimal d.words) ++ drop 24 d.out.bytes ≡ encoded_request words
 closed {words} {d} h = ap (λ (l : List ℕ). line_text 42 (decimal d.words) ++ l) (behind-gap h) ∙ ap (λ n. line_text 42 (decimal n) ++ encoded_words words) h.count
 
 -- one label more

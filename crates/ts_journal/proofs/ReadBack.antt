@@ -17,7 +17,7 @@ use Rattle.ts_spec.specs.Outcome.{time_of}
 use Rattle.ts_spec.specs.Ranges.{aggregator_word, duration_word, IsDuration}
 use Rattle.ts_spec.specs.Refusal.{Fault, Arity}
 use Rattle.ts_spec.specs.Replies.{aggregator_name}
-use Rattle.ts_spec.specs.Resolved.{resolved_at, resolved_triple, resolved}
+use Rattle.ts_spec.specs.ResolvedCommands.{resolved_at, resolved_triple, resolved}
 use Rattle.ts_spec.specs.Sample.{MAX_TIME}
 use Rattle.ts_spec.specs.SeriesOptions.{series_options, alter_options, add_options, incr_options, spec, change}
 use Rattle.ts_spec.specs.Settings.{Word, IsTime, and_then, value_word, nothing, options}

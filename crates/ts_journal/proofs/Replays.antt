@@ -5,8 +5,8 @@ use Rattle.std.specs.Prelude.{Ok}
 use Rattle.ts_spec.specs.declared.limits.Limits.{Limits}
 use Rattle.ts_spec.specs.Command.{Triple, Command, Create, Alter, Add, Madd, Incr, DelRange, CreateRule, DeleteRule, Range, MRange, Get, MGet, QueryIndex, InfoOf, Ping, Echo, Quit, Drop, Exists}
 use Rattle.ts_spec.specs.Grammar.{command}
-use Rattle.ts_spec.specs.Replies.{listed, item_reply, reply_to}
-use Rattle.ts_spec.specs.Resolved.{resolved, is_written}
+use Rattle.ts_spec.specs.Replies.{reply_list, item_reply, reply_to}
+use Rattle.ts_spec.specs.ResolvedCommands.{resolved, is_written}
 use Rattle.ts_spec.specs.Response.{Item, Wrote, IsWrong, IsRefused, Items}
 use Rattle.ts_spec.specs.State.{State}
 use Rattle.ts_spec.specs.Step.{Outcome, step, triple_step, item_of, madd}
@@ -15,12 +15,12 @@ use Rattle.ts_spec.proofs.ResolvedTimes.{step-resolved}
 use Rattle.ts_spec.proofs.Untaken.{triple-told}
 use Rattle.ts_journal.specs.Fixed.{is_fixed}
 use Rattle.ts_journal.specs.Record.{is_error, is_number, items_of, accepted, bytes_of, record_words, record_of}
-use Rattle.ts_journal.specs.Replay.{DoesOne, DoAll, IsStep, IsDone, IsRecorded, IsAccepted}
+use Rattle.ts_journal.specs.RecordReplay.{ExecutesTriple, ExecutesTriples, IsStep, IsDone, IsRecorded, IsAccepted}
 use Rattle.ts_journal.proofs.ReadableChanges.{IsReadable}
 use Rattle.ts_journal.proofs.ReadableCommands.{command-readable}
 use Rattle.ts_journal.proofs.ReadBack.{IsWhole, reads-back}
 use Rattle.ts_journal.proofs.ShortAnswers.{short}
-use Rattle.ts_journal.proofs.TakenTriples.{samples-taken, readable-taken, do-taken, times-accepted}
+use Rattle.ts_journal.proofs.TakenTriples.{samples-accepted_part, readable-accepted_part, do-accepted_part, times-accepted}
 
 -- ---- all changes
 
@@ -54,7 +54,7 @@ step-replays limits reading other c m n reply fixed done right =
 pub replays : (limits : Limits) (reading other : ℕ) (c : Command) (m n : State) (reply : Reply) → IsDone limits reading c m reply n → record_of c reading reply ≢ []
     → Replays limits m other (resolved reading (accepted c reply)) n
 replays limits reading other (Madd ts) m n reply done some =
-    let all = do-taken limits reading other ts m n (items_of reply) [] done in record {
+    let all = do-accepted_part limits reading other ts m n (items_of reply) [] done in record {
       state = ap (λ (o : Outcome). o.state) all.done;
       reply = subst (λ (o : Outcome). IsAccepted (reply_to o.response)) (sym all.done) (refl, times-accepted all.times);
     }
@@ -84,7 +84,7 @@ replays limits reading other (Exists keys) m n reply done some = absurd (some-wo
 -- ---- its words
 
 accepted-readable : (c : Command) (reply : Reply) → IsReadable c → IsReadable (accepted c reply)
-accepted-readable (Madd ts) reply h = readable-taken ts (items_of reply) h
+accepted-readable (Madd ts) reply h = readable-accepted_part ts (items_of reply) h
 accepted-readable (Create key s) reply h = h
 accepted-readable (Alter key c) reply h = h
 accepted-readable (Add key at v on s) reply h = h
@@ -105,7 +105,7 @@ accepted-readable (Drop keys) reply h = h
 accepted-readable (Exists keys) reply h = h
 
 accepted-whole : (limits : Limits) (reading : ℕ) (c : Command) (m n : State) (reply : Reply) → IsDone limits reading c m reply n → IsWhole (accepted c reply)
-accepted-whole limits reading (Madd ts) m n reply done = samples-taken limits reading ts m n (items_of reply) done
+accepted-whole limits reading (Madd ts) m n reply done = samples-accepted_part limits reading ts m n (items_of reply) done
 accepted-whole limits reading (Create key s) m n reply done = tt
 accepted-whole limits reading (Alter key c) m n reply done = tt
 accepted-whole limits reading (Add key at v on s) m n reply done = tt
@@ -134,7 +134,7 @@ words-read limits reading c m n reply r =
 -- ---- a step of TS.MADD is what its triples do
 
 steps-do : (limits : Limits) (reading : ℕ) (ts : List Triple) (m : State) (so_far : List Item)
-    → (items : List Item) × ((madd limits m reading so_far ts).response ≡ Items (so_far ++ items)) × DoAll limits reading ts m (listed (map item_reply items)) (madd limits m reading so_far ts).state
+    → (items : List Item) × ((madd limits m reading so_far ts).response ≡ Items (so_far ++ items)) × ExecutesTriples limits reading ts m (reply_list (map item_reply items)) (madd limits m reading so_far ts).state
 steps-do limits reading [] m so_far = ([], ap Items (sym (append-nil so_far)), refl)
 steps-do limits reading (t ∷ ts) m so_far =
     let done : Outcome = triple_step limits m reading t.key t.at t.value in
@@ -148,16 +148,16 @@ steps-do limits reading (t ∷ ts) m so_far =
   where
     does : (item : Item) → item_of (triple_step limits m reading t.key t.at t.value).response ≡ item ∷ []
         → (is_written item ≡ false → (triple_step limits m reading t.key t.at t.value).state ≡ m)
-        → DoesOne (is_number (item_reply item)) limits reading t m (triple_step limits m reading t.key t.at t.value).state
+        → ExecutesTriple (is_number (item_reply item)) limits reading t m (triple_step limits m reading t.key t.at t.value).state
     does (Wrote time) told stays = record { time = time; told = told; state = refl }
     does (IsWrong fault) told stays = stays refl
     does (IsRefused refusal) told stays = stays refl
 
 pub madd-does : (limits : Limits) (reading : ℕ) (ts : List Triple) (m : State)
-    → DoAll limits reading ts m (items_of (reply_to (step limits m reading (Madd ts)).response)) (step limits m reading (Madd ts)).state
+    → ExecutesTriples limits reading ts m (items_of (reply_to (step limits m reading (Madd ts)).response)) (step limits m reading (Madd ts)).state
 madd-does limits reading ts m =
     let all = steps-do limits reading ts m [] in
-    subst (λ response. DoAll limits reading ts m (items_of (reply_to response)) (madd limits m reading [] ts).state) (sym all.1) all.2
+    subst (λ response. ExecutesTriples limits reading ts m (items_of (reply_to response)) (madd limits m reading [] ts).state) (sym all.1) all.2
 
 pub step-done : (limits : Limits) (reading : ℕ) (c : Command) (m : State) → IsDone limits reading c m (reply_to (step limits m reading c).response) (step limits m reading c).state
 step-done limits reading (Madd ts) m = madd-does limits reading ts m

@@ -17,7 +17,7 @@ use Rattle.ts_spec.specs.Outcome.{Outcome, refused, answer_only, time_of}
 use Rattle.ts_spec.specs.Refusal.{Refusal, KeyExists, KeysFull, LabelsFull, TooOld, BeforeLast, SamplesFull, DeleteBeyondRetention, SameKey, SourceIsDest, DestIsSource, DestHasSource, RulesSpent, RulesFull, NoRule}
 use Rattle.ts_spec.specs.Replies.{reply_to}
 use Rattle.ts_spec.specs.Response.{Response, Done, Count}
-use Rattle.ts_spec.specs.Rules.{Merged, Refuse, Keep, To, merge, shown, within_bound, written, deleted, without_rule, dropped, settled}
+use Rattle.ts_spec.specs.Rules.{Merged, Refuse, KeepOld, To, merge, shown, within_bound, written, deleted, without_rule, dropped, settled}
 use Rattle.ts_spec.specs.Sample.{Point, last_of, between}
 use Rattle.ts_spec.specs.State.{Record, State, link_to, rule_to, change, edge}
 use Rattle.ts_spec.specs.Writing.{shows_more, first_full, rules_at, unless_full, within_destinations, value_at, unless_ignored, write_merged, write, add_at, is_before_last, changed_value, increased, incr_at, meets_expired, delete_at}
@@ -25,7 +25,7 @@ use Rattle.ts_spec.specs.Command.{Command, Create, Alter, Add, Madd, Incr, DelRa
 use Rattle.ts_spec.specs.Step.{step}
 use Rattle.ts_journal.specs.Fixed.{is_fixed}
 use Rattle.ts_journal.specs.Record.{is_error, items_of}
-use Rattle.ts_journal.specs.Replay.{has_error}
+use Rattle.ts_journal.specs.RecordReplay.{has_error}
 use Rattle.std.proofs.lemmas.Bool.{false≢true}
 
 pub record IsShort (m : State) (done : Outcome) : Type 0 where
@@ -71,7 +71,7 @@ ignored-none m (Some t) done h = line refl refl
 
 merged-none : (limits : Limits) (m : State) (key : Key) (t : ℕ) (met : Merged) → IsShort m (write_merged limits m key t met)
 merged-none limits m key t (Refuse refusal) = no
-merged-none limits m key t Keep = line refl refl
+merged-none limits m key t KeepOld = line refl refl
 merged-none limits m key t (To v) =
     let done : Outcome = record { state = written key t v m; response = Count t } in
     either (shows_more limits.samples done.state key) (refused m SamplesFull) (within_destinations limits m key done) no
@@ -89,7 +89,7 @@ add-none limits m key t v on s (Some d) = write-none limits m key d (By (unwrap_
 increased-none : (limits : Limits) (m : State) (key : Key) (d : Record) (t : ℕ) (met : Merged) → IsShort m (increased limits m key d t met)
 increased-none limits m key d t (To v) = ignored-none m (ignored m key d t v) (write_merged limits m key t (To v)) (merged-none limits m key t (To v))
 increased-none limits m key d t (Refuse refusal) = no
-increased-none limits m key d t Keep = line refl refl
+increased-none limits m key d t KeepOld = line refl refl
 
 incr-none : (limits : Limits) (m : State) (key : Key) (change : ℤ) (t : ℕ) (s : Spec) (there : Option Record) → IsShort m (incr_at limits m key change t s there)
 incr-none limits m key change t s None = new_key-none limits m key (fresh s (record { time = t; value = change; made = 0 } ∷ []) (Some t)) (Count t) refl refl

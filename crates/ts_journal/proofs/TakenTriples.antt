@@ -6,16 +6,16 @@ use Rattle.ts_spec.specs.declared.limits.Limits.{Limits}
 use Rattle.ts_spec.specs.Command.{Triple}
 use Rattle.ts_spec.specs.Key.{Key}
 use Rattle.ts_spec.specs.Refusal.{Fault}
-use Rattle.ts_spec.specs.Replies.{listed, item_reply}
-use Rattle.ts_spec.specs.Resolved.{resolved_triple}
+use Rattle.ts_spec.specs.Replies.{reply_list, item_reply}
+use Rattle.ts_spec.specs.ResolvedCommands.{resolved_triple}
 use Rattle.ts_spec.specs.Response.{Item, Wrote, IsWrong, IsRefused, Items}
 use Rattle.ts_spec.specs.State.{State}
 use Rattle.ts_spec.specs.Step.{Outcome, triple_step, item_of, madd}
 use Rattle.ts_spec.specs.Text.{Reply, Replies, Empty}
 use Rattle.ts_spec.specs.Text as text
 use Rattle.ts_spec.proofs.ResolvedTimes.{triple-resolved}
-use Rattle.ts_journal.specs.Record.{is_number, taken}
-use Rattle.ts_journal.specs.Replay.{DoesOne, DoAll, has_error}
+use Rattle.ts_journal.specs.Record.{is_number, accepted_part}
+use Rattle.ts_journal.specs.RecordReplay.{ExecutesTriple, ExecutesTriples, has_error}
 use Rattle.ts_journal.proofs.ReadableChanges.{AreReadableTriples}
 use Rattle.ts_journal.proofs.ReadBack.{IsSample, AreSamples}
 
@@ -28,28 +28,28 @@ IsTime (IsWrong fault ∷ items) = ⊥
 IsTime (IsRefused refusal ∷ items) = ⊥
 
 -- each has a time and a value
-taken-sample : (limits : Limits) (m : State) (reading : ℕ) (key : Key) (at : Result At Fault) (v : Result ℤ Fault)
+accepted_part-sample : (limits : Limits) (m : State) (reading : ℕ) (key : Key) (at : Result At Fault) (v : Result ℤ Fault)
     → IsTime (item_of (triple_step limits m reading key at v).response) → IsSample at v
-taken-sample limits m reading key (Ok at) (Ok v) h = tt
-taken-sample limits m reading key (Ok at) (Err fault) h = h
-taken-sample limits m reading key (Err fault) v h = h
+accepted_part-sample limits m reading key (Ok at) (Ok v) h = tt
+accepted_part-sample limits m reading key (Ok at) (Err fault) h = h
+accepted_part-sample limits m reading key (Err fault) v h = h
 
-pub samples-taken : (limits : Limits) (reading : ℕ) (ts : List Triple) (m n : State) (replies : Replies) → DoAll limits reading ts m replies n → AreSamples (taken ts replies)
-samples-taken limits reading [] m n replies h = tt
-samples-taken limits reading (t ∷ ts) m n Empty h = absurd h
-samples-taken limits reading (t ∷ ts) m n (text.Replies.Item reply replies) (mid, here, after) = go (is_number reply) here (samples-taken limits reading ts mid n replies after)
+pub samples-accepted_part : (limits : Limits) (reading : ℕ) (ts : List Triple) (m n : State) (replies : Replies) → ExecutesTriples limits reading ts m replies n → AreSamples (accepted_part ts replies)
+samples-accepted_part limits reading [] m n replies h = tt
+samples-accepted_part limits reading (t ∷ ts) m n Empty h = absurd h
+samples-accepted_part limits reading (t ∷ ts) m n (text.Replies.Item reply replies) (mid, here, after) = go (is_number reply) here (samples-accepted_part limits reading ts mid n replies after)
   where
-    go : (b : Bool) → DoesOne b limits reading t m mid → AreSamples (taken ts replies) → AreSamples (if b then t ∷ taken ts replies else taken ts replies)
-    go true here others = (taken-sample limits m reading t.key t.at t.value (subst IsTime (sym here.told) tt), others)
+    go : (b : Bool) → ExecutesTriple b limits reading t m mid → AreSamples (accepted_part ts replies) → AreSamples (if b then t ∷ accepted_part ts replies else accepted_part ts replies)
+    go true here others = (accepted_part-sample limits m reading t.key t.at t.value (subst IsTime (sym here.told) tt), others)
     go false here others = others
 
 -- and is in its range, as it was read
-pub readable-taken : (ts : List Triple) (replies : Replies) → AreReadableTriples ts → AreReadableTriples (taken ts replies)
-readable-taken [] replies h = tt
-readable-taken (t ∷ ts) Empty h = tt
-readable-taken (t ∷ ts) (text.Replies.Item reply replies) h = go (is_number reply) (readable-taken ts replies h.1)
+pub readable-accepted_part : (ts : List Triple) (replies : Replies) → AreReadableTriples ts → AreReadableTriples (accepted_part ts replies)
+readable-accepted_part [] replies h = tt
+readable-accepted_part (t ∷ ts) Empty h = tt
+readable-accepted_part (t ∷ ts) (text.Replies.Item reply replies) h = go (is_number reply) (readable-accepted_part ts replies h.1)
   where
-    go : (b : Bool) → AreReadableTriples (taken ts replies) → AreReadableTriples (if b then t ∷ taken ts replies else taken ts replies)
+    go : (b : Bool) → AreReadableTriples (accepted_part ts replies) → AreReadableTriples (if b then t ∷ accepted_part ts replies else accepted_part ts replies)
     go true others = (h.0, others)
     go false others = others
 
@@ -58,19 +58,19 @@ pub record DoesTaken (limits : Limits) (m : State) (other : ℕ) (so_far : List 
   pub times : List ℕ
   pub done : madd limits m other so_far ts ≡ record { state = n; response = Items (so_far ++ map (λ t. Wrote t) times) }
 
-pub do-taken : (limits : Limits) (reading other : ℕ) (ts : List Triple) (m n : State) (replies : Replies) (so_far : List Item) → DoAll limits reading ts m replies n
-    → DoesTaken limits m other so_far (map (resolved_triple reading) (taken ts replies)) n
-do-taken limits reading other [] m n Empty so_far h =
+pub do-accepted_part : (limits : Limits) (reading other : ℕ) (ts : List Triple) (m n : State) (replies : Replies) (so_far : List Item) → ExecutesTriples limits reading ts m replies n
+    → DoesTaken limits m other so_far (map (resolved_triple reading) (accepted_part ts replies)) n
+do-accepted_part limits reading other [] m n Empty so_far h =
     record { times = []; done = ap (λ (s : State). record { state = s; response = Items so_far }) (sym h) ∙ ap (λ items. record { state = n; response = Items items }) (sym (append-nil so_far)) }
-do-taken limits reading other [] m n (text.Replies.Item reply replies) so_far h = absurd h
-do-taken limits reading other (t ∷ ts) m n Empty so_far h = absurd h
-do-taken limits reading other (t ∷ ts) m n (text.Replies.Item reply replies) so_far (mid, here, after) =
-    go (is_number reply) here (λ items. do-taken limits reading other ts mid n replies items after)
+do-accepted_part limits reading other [] m n (text.Replies.Item reply replies) so_far h = absurd h
+do-accepted_part limits reading other (t ∷ ts) m n Empty so_far h = absurd h
+do-accepted_part limits reading other (t ∷ ts) m n (text.Replies.Item reply replies) so_far (mid, here, after) =
+    go (is_number reply) here (λ items. do-accepted_part limits reading other ts mid n replies items after)
   where
-    go : (b : Bool) → DoesOne b limits reading t m mid → ((items : List Item) → DoesTaken limits mid other items (map (resolved_triple reading) (taken ts replies)) n)
-        → DoesTaken limits m other so_far (map (resolved_triple reading) (if b then t ∷ taken ts replies else taken ts replies)) n
+    go : (b : Bool) → ExecutesTriple b limits reading t m mid → ((items : List Item) → DoesTaken limits mid other items (map (resolved_triple reading) (accepted_part ts replies)) n)
+        → DoesTaken limits m other so_far (map (resolved_triple reading) (if b then t ∷ accepted_part ts replies else accepted_part ts replies)) n
     go true here others =
-        let more : List Triple = map (resolved_triple reading) (taken ts replies) in
+        let more : List Triple = map (resolved_triple reading) (accepted_part ts replies) in
         let rest = others (so_far ++ Wrote here.time ∷ []) in record {
           times = here.time ∷ rest.times;
           done = ap (λ (o : Outcome). madd limits o.state other (so_far ++ item_of o.response) more) (triple-resolved limits m reading other t.key t.at t.value)
@@ -81,8 +81,8 @@ do-taken limits reading other (t ∷ ts) m n (text.Replies.Item reply replies) s
         }
     go false here others =
         let rest = others so_far in
-        record { times = rest.times; done = ap (λ (s : State). madd limits s other so_far (map (resolved_triple reading) (taken ts replies))) (sym here) ∙ rest.done }
+        record { times = rest.times; done = ap (λ (s : State). madd limits s other so_far (map (resolved_triple reading) (accepted_part ts replies))) (sym here) ∙ rest.done }
 
-pub times-accepted : (times : List ℕ) → has_error (listed (map item_reply (map (λ t. Wrote t) times))) ≡ false
+pub times-accepted : (times : List ℕ) → has_error (reply_list (map item_reply (map (λ t. Wrote t) times))) ≡ false
 times-accepted [] = refl
 times-accepted (t ∷ times) = times-accepted times

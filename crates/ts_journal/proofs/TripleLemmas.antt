@@ -8,7 +8,7 @@ use Rattle.std.specs.Fmt.{decimal}
 use Rattle.ts_spec.specs.Encoded.{encoded_word, encoded_words}
 use Rattle.ts_spec.specs.Text.{line_text}
 use Rattle.ts_journal.specs.Fixed.{triple_text}
-use Rattle.ts_journal.specs.Lines.{pieces, joined, words_in, taken_text}
+use Rattle.ts_journal.specs.Lines.{pieces, joined, words_in, accepted_text}
 use Rattle.ts_journal.specs.Record.{triple_words}
 use Rattle.ts_journal.proofs.Accepted.{joined-triples}
 
@@ -48,7 +48,7 @@ sum-of-triples reading ts lens bytes l b =
 pub filled : (ps : List (List ℕ)) (items room : List ℕ) (start count : ℕ) → (count == 0) ≡ false → count ≡ words_in ps
     → items ≡ replicate 24 0 ++ encoded_word (codes "TS.MADD") ++ joined ps → length room ≡ length items
     → drop start room ≡ line_text 42 (decimal (count + 1)) ++ drop 24 items
-    → drop start (take (length items) (room ++ drop (length room) items)) ≡ taken_text ps
+    → drop start (take (length items) (room ++ drop (length room) items)) ≡ accepted_text ps
 filled ps items room start count some words its same text =
     let front : take (length items) (room ++ drop (length room) items) ≡ room =
     ap (λ n. take n (room ++ drop (length room) items)) (sym same) ∙ take-append_seam room (drop (length room) items) in

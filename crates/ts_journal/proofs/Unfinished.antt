@@ -4,10 +4,10 @@ use Rattle.std.proofs.Math.Nat.{eq-or-lt_of_le}
 use Rattle.std.proofs.lemmas.List.{take_all, length-take-le}
 use Rattle.std.specs.Prelude.{◌⊎◌}
 use Rattle.ts_spec.specs.declared.wire.WireLimits.{WireLimits}
-use Rattle.ts_spec.specs.Fronts.{IsFront, then_on}
+use Rattle.ts_spec.specs.StreamPrefixes.{IsStreamPrefix, continued_by}
 use Rattle.ts_spec.specs.Wire.{Request, Stream, Then, Ended, Inside, Broken, Mode, Start, Move, Goto, Whole, Fault, move, at_end, after_move, then_request, read_on, stream_at, ending_of}
 use Rattle.ts_spec.proofs.Concatenation.{concatenated}
-use Rattle.ts_spec.proofs.Fronts.{read_on-front}
+use Rattle.ts_spec.proofs.StreamPrefixes.{read_on-front}
 
 -- a stream without the request inside which it ends
 abbrev pub finished : Stream → Stream
@@ -136,16 +136,16 @@ nothing-before : (limits : WireLimits) (place : ℕ) (bytes more : List ℕ) →
 nothing-before limits place bytes more e none =
     let on : ℕ = place + length bytes in
     let rest : Inside place ≡ stream_at limits on more =
-    sym e ∙ concatenated limits place place Start bytes more refl (ap ending_of none) ∙ ap (λ stream. then_on stream (stream_at limits on more)) none in
+    sym e ∙ concatenated limits place place Start bytes more refl (ap ending_of none) ∙ ap (λ stream. continued_by stream (stream_at limits on more)) none in
     let u = unfinished limits on more place (ap ending_of (sym rest)) in
     omega (arith, u.its)
 
 -- its fronts are inside it too
 pub front-inside : (limits : WireLimits) (place : ℕ) (bytes more : List ℕ) → stream_at limits place (bytes ++ more) ≡ Inside place → 0 < length bytes → stream_at limits place bytes ≡ Inside place
 front-inside limits place bytes more e some =
-    go (stream_at limits place bytes) refl (subst (IsFront (stream_at limits place bytes)) e (read_on-front limits place place Start bytes more))
+    go (stream_at limits place bytes) refl (subst (IsStreamPrefix (stream_at limits place bytes)) e (read_on-front limits place place Start bytes more))
   where
-    go : (stream : Stream) → stream_at limits place bytes ≡ stream → IsFront stream (Inside place) → stream_at limits place bytes ≡ Inside place
+    go : (stream : Stream) → stream_at limits place bytes ≡ stream → IsStreamPrefix stream (Inside place) → stream_at limits place bytes ≡ Inside place
     go (Then request at rest) its front = absurd (let e = front.1 in cc)
     go Ended its front = absurd (let none = nothing-before limits place bytes more e its in omega arith)
     go (Inside begin) its front =

@@ -10,11 +10,11 @@ use Rattle.ts_spec.specs.Step.{step}
 use Rattle.ts_spec.specs.Text.{Reply, Simple, Error, Int, Value, Bulk, Nil, Array, Replies, Empty, Item}
 use Rattle.ts_spec.specs.Wire.{Request}
 use Rattle.ts_journal.specs.Fixed.{is_fixed}
-use Rattle.ts_journal.specs.Record.{is_error, is_number, items_of, taken, triple_words, with_name, record_words, bytes_of, record_of}
-use Rattle.ts_journal.specs.Replay.{DoesOne, DoAll, IsStep, IsDone}
+use Rattle.ts_journal.specs.Record.{is_error, is_number, items_of, accepted_part, triple_words, with_name, record_words, bytes_of, record_of}
+use Rattle.ts_journal.specs.RecordReplay.{ExecutesTriple, ExecutesTriples, IsStep, IsDone}
 use Rattle.ts_journal.proofs.ReadBack.{samples-count}
 use Rattle.ts_journal.proofs.ShortAnswers.{short}
-use Rattle.ts_journal.proofs.TakenTriples.{samples-taken}
+use Rattle.ts_journal.proofs.TakenTriples.{samples-accepted_part}
 
 no-words : (words : Request) → bytes_of words ≡ [] → words ≡ []
 no-words [] e = refl
@@ -46,36 +46,36 @@ error-items (Bulk bytes) e = absurd (false≢true e)
 error-items Nil e = absurd (false≢true e)
 error-items (Array items) e = absurd (false≢true e)
 
-taken-none : (ts : List Triple) → taken ts Empty ≡ []
-taken-none [] = refl
-taken-none (t ∷ ts) = refl
+accepted_part-none : (ts : List Triple) → accepted_part ts Empty ≡ []
+accepted_part-none [] = refl
+accepted_part-none (t ∷ ts) = refl
 
-no-triples : (limits : Limits) (reading : ℕ) (ts : List Triple) (m n : State) (replies : Replies) → DoAll limits reading ts m replies n
-    → flat_map (triple_words reading) (taken ts replies) ≡ [] → taken ts replies ≡ []
-no-triples limits reading ts m n replies done e = go (taken ts replies) (samples-count reading (taken ts replies) (samples-taken limits reading ts m n replies done)) e
+no-triples : (limits : Limits) (reading : ℕ) (ts : List Triple) (m n : State) (replies : Replies) → ExecutesTriples limits reading ts m replies n
+    → flat_map (triple_words reading) (accepted_part ts replies) ≡ [] → accepted_part ts replies ≡ []
+no-triples limits reading ts m n replies done e = go (accepted_part ts replies) (samples-count reading (accepted_part ts replies) (samples-accepted_part limits reading ts m n replies done)) e
   where
     go : (those : List Triple) → length (flat_map (triple_words reading) those) ≡ 3 * length those → flat_map (triple_words reading) those ≡ [] → those ≡ []
     go [] count e = refl
     go (t ∷ those) count e = absurd (let none : length (flat_map (triple_words reading) (t ∷ those)) ≡ 0 = ap length e in omega arith)
 
-triples-stay : (limits : Limits) (reading : ℕ) (ts : List Triple) (m n : State) (replies : Replies) → DoAll limits reading ts m replies n → taken ts replies ≡ [] → n ≡ m
+triples-stay : (limits : Limits) (reading : ℕ) (ts : List Triple) (m n : State) (replies : Replies) → ExecutesTriples limits reading ts m replies n → accepted_part ts replies ≡ [] → n ≡ m
 triples-stay limits reading [] m n Empty h e = h
 triples-stay limits reading [] m n (Item reply replies) h e = absurd h
 triples-stay limits reading (t ∷ ts) m n Empty h e = absurd h
 triples-stay limits reading (t ∷ ts) m n (Item reply replies) (mid, here, after) e = go (is_number reply) here e (triples-stay limits reading ts mid n replies after)
   where
-    go : (b : Bool) → DoesOne b limits reading t m mid → (if b then t ∷ taken ts replies else taken ts replies) ≡ [] → (taken ts replies ≡ [] → n ≡ mid) → n ≡ m
+    go : (b : Bool) → ExecutesTriple b limits reading t m mid → (if b then t ∷ accepted_part ts replies else accepted_part ts replies) ≡ [] → (accepted_part ts replies ≡ [] → n ≡ mid) → n ≡ m
     go true here e others = absurd cc
     go false here e others = others e ∙ here
 
-madd-stays : (limits : Limits) (reading : ℕ) (ts : List Triple) (m n : State) (reply : Reply) → DoAll limits reading ts m (items_of reply) n → record_of (Madd ts) reading reply ≡ [] → n ≡ m
+madd-stays : (limits : Limits) (reading : ℕ) (ts : List Triple) (m n : State) (reply : Reply) → ExecutesTriples limits reading ts m (items_of reply) n → record_of (Madd ts) reading reply ≡ [] → n ≡ m
 madd-stays limits reading ts m n reply done none = triples-stay limits reading ts m n (items_of reply) done (go (is_error reply) refl none)
   where
     those : List Triple
-    those = taken ts (items_of reply)
+    those = accepted_part ts (items_of reply)
 
     go : (b : Bool) → is_error reply ≡ b → (if b then [] else bytes_of (with_name (codes "TS.MADD") (flat_map (triple_words reading) those))) ≡ [] → those ≡ []
-    go true wrong e = ap (taken ts) (error-items reply wrong) ∙ taken-none ts
+    go true wrong e = ap (accepted_part ts) (error-items reply wrong) ∙ accepted_part-none ts
     go false right e =
         no-triples limits reading ts m n (items_of reply) done
         (no-named (codes "TS.MADD") (flat_map (triple_words reading) those) (no-words (with_name (codes "TS.MADD") (flat_map (triple_words reading) those)) e))

@@ -4,7 +4,7 @@ use Rattle.ts_journal.specs.declared.record.Record.{Record}
 use Rattle.ts_journal.specs.declared.record.Content.{Content}
 use Rattle.ts_journal.specs.declared.record.Content.TheVariants as content
 use Rattle.ts_journal.specs.declared.triples.Triples.{Triples}
-use Rattle.ts_journal.specs.Lines.{items_text, pieces, taken_by, taken_text, begins_error}
+use Rattle.ts_journal.specs.Lines.{items_text, pieces, accepted_pieces, accepted_text, begins_error}
 
 -- the text of each triple's arguments
 abbrev pub pieces_of : Triples → List (List ℕ)
@@ -13,7 +13,7 @@ pieces_of t = pieces t.lens.items (drop 24 t.words.bytes)
 -- the bytes of the record, if the reply has this text and is not an error
 abbrev pub written_by : Content → (reply : List ℕ) → List ℕ
 written_by (content.Fixed out) reply = out.bytes
-written_by (content.Triples t) reply = taken_text (taken_by (items_text reply) (pieces_of t))
+written_by (content.Triples t) reply = accepted_text (accepted_pieces (items_text reply) (pieces_of t))
 
 -- the bytes of the record, if the reply has this text
 abbrev pub written : Content → (reply : List ℕ) → List ℕ

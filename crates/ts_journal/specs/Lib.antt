@@ -5,4 +5,4 @@ pub mod Limits
 pub mod Lines
 pub mod Loading
 pub mod Record
-pub mod Replay
+pub mod RecordReplay

@@ -2,7 +2,7 @@
 use Rattle.std.specs.Prelude.{◌≡◌, ◌≢◌, ℕ, ◌+◌, ◌*◌, ◌≤◌, [], Ok}
 use Rattle.ts_spec.specs.declared.wire.WireLimits.{WireLimits}
 use Rattle.ts_spec.specs.Command.{Command}
-use Rattle.ts_spec.specs.Fronts.{IsWithin}
+use Rattle.ts_spec.specs.StreamPrefixes.{IsWithin}
 use Rattle.ts_spec.specs.Grammar.{command}
 use Rattle.ts_spec.specs.Text.{Reply}
 use Rattle.ts_spec.specs.Wire.{Request}

@@ -30,10 +30,10 @@ pieces [] bytes = []
 pieces (len ∷ lens) bytes = take len bytes ∷ pieces lens (drop len bytes)
 
 -- the pieces whose items are numbers; there is one item for each piece
-abbrev pub taken_by : (items : List ℕ) → List (List ℕ) → List (List ℕ)
-taken_by items [] = []
-taken_by items (piece ∷ pieces) =
-    if begins_number items then piece ∷ taken_by (after_line items) pieces else taken_by (after_line items) pieces
+abbrev pub accepted_pieces : (items : List ℕ) → List (List ℕ) → List (List ℕ)
+accepted_pieces items [] = []
+accepted_pieces items (piece ∷ pieces) =
+    if begins_number items then piece ∷ accepted_pieces (after_line items) pieces else accepted_pieces (after_line items) pieces
 
 -- the pieces, joined
 abbrev pub joined : List (List ℕ) → List ℕ
@@ -46,6 +46,6 @@ words_in [] = 0
 words_in (piece ∷ pieces) = min 3 (length piece) + words_in pieces
 
 -- the TS.MADD request with these pieces, or nothing if they have no arguments
-abbrev pub taken_text : List (List ℕ) → List ℕ
-taken_text pieces =
+abbrev pub accepted_text : List (List ℕ) → List ℕ
+accepted_text pieces =
     if words_in pieces == 0 then [] else line_text 42 (decimal (words_in pieces + 1)) ++ (encoded_word (codes "TS.MADD") ++ joined pieces)

@@ -12,7 +12,7 @@ use Rattle.ts_spec.specs.declared.limits.Limits.{Limits}
 use Rattle.ts_spec.specs.declared.wire.WireLimits.{WireLimits}
 use Rattle.ts_journal.specs.Limits.{journal_limits}
 use Rattle.ts_journal.specs.Record.{is_change, is_error, items_of}
-use Rattle.ts_journal.specs.Replay.{has_error}
+use Rattle.ts_journal.specs.RecordReplay.{has_error}
 
 -- the state after all changes, and how many bytes are whole requests; or the offset after the last change before it
 -- breaks
@@ -29,22 +29,22 @@ abbrev pub accepted_state : Outcome → Option State
 accepted_state done = if is_accepted (reply_to done.response) then Some done.state else None
 
 -- the state after a command of a journal, which must be a change, must not ask for the time, and must be accepted
-abbrev pub replayed : Limits → State → Command → Option State
-replayed limits m c = if is_change c && not (needs_clock c) then accepted_state (step limits m 0 c) else None
+abbrev pub apply_recorded : Limits → State → Command → Option State
+apply_recorded limits m c = if is_change c && not (needs_clock c) then accepted_state (step limits m 0 c) else None
 
 -- the same for a request; there is no state if it is not a command
-abbrev pub replayed_by : Limits → State → Result Command Fault → Option State
-replayed_by limits m (Ok c) = replayed limits m c
-replayed_by limits m (Err fault) = None
+abbrev pub apply_recorded_request : Limits → State → Result Command Fault → Option State
+apply_recorded_request limits m (Ok c) = apply_recorded limits m c
+apply_recorded_request limits m (Err fault) = None
 
 -- continues from the state after a request, or breaks after the request before it
-abbrev pub on_or : Option State → (place : ℕ) → (State → Load) → Load
-on_or None place on = BreaksAt place
-on_or (Some m) place on = on m
+abbrev pub continue_or_break : Option State → (place : ℕ) → (State → Load) → Load
+continue_or_break None place on = BreaksAt place
+continue_or_break (Some m) place on = on m
 
 -- loads the rest of a stream of this size, from the state after the requests before offset `place`
 abbrev pub load_on : Limits → State → (place size : ℕ) → Stream → Load
-load_on limits m place size (Then request after rest) = on_or (replayed_by limits m (command request)) place (λ n. load_on limits n after size rest)
+load_on limits m place size (Then request after rest) = continue_or_break (apply_recorded_request limits m (command request)) place (λ n. load_on limits n after size rest)
 load_on limits m place size Ended = Loads m size
 load_on limits m place size (Inside begin) = Loads m begin
 load_on limits m place size (Broken kind at) = BreaksAt at

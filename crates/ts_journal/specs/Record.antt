@@ -153,14 +153,14 @@ items_of (Array items) = items
 items_of _ = Empty
 
 -- the triples whose item in the reply is a number
-abbrev pub taken : List Triple → Replies → List Triple
-taken [] replies = []
-taken (t ∷ ts) Empty = []
-taken (t ∷ ts) (Item reply replies) = if is_number reply then t ∷ taken ts replies else taken ts replies
+abbrev pub accepted_part : List Triple → Replies → List Triple
+accepted_part [] replies = []
+accepted_part (t ∷ ts) Empty = []
+accepted_part (t ∷ ts) (Item reply replies) = if is_number reply then t ∷ accepted_part ts replies else accepted_part ts replies
 
 -- the accepted part of a command: of TS.MADD, the accepted triples; any other command is whole
 abbrev pub accepted : Command → Reply → Command
-accepted (Madd triples) reply = Madd (taken triples (items_of reply))
+accepted (Madd triples) reply = Madd (accepted_part triples (items_of reply))
 accepted c reply = c
 
 -- the bytes of a request, or nothing if it has no arguments
@@ -174,12 +174,12 @@ abbrev pub record_of : Command → (reading : ℕ) → Reply → List ℕ
 record_of c reading reply = if is_error reply then [] else bytes_of (record_words reading (accepted c reply))
 
 -- each item of TS.MADD's reply is a number or an error of one line
-abbrev pub AreTold : Replies → Type 0
-AreTold Empty = Unit {0}
-AreTold (Item (Int n) replies) = AreTold replies
-AreTold (Item (Error words) replies) = IsOneLine words × AreTold replies
-AreTold (Item reply replies) = ⊥
+abbrev pub AreMaddItems : Replies → Type 0
+AreMaddItems Empty = Unit {0}
+AreMaddItems (Item (Int n) replies) = AreMaddItems replies
+AreMaddItems (Item (Error words) replies) = IsOneLine words × AreMaddItems replies
+AreMaddItems (Item reply replies) = ⊥
 
 -- this is the record for the text of each reply that the command may get
 abbrev pub IsRecordOf : (reading : ℕ) → Command → (record_ : List ℕ → List ℕ) → Type 0
-IsRecordOf reading c record_ = (reply : Reply) → AreTold (items_of reply) → record_ (text reply) ≡ record_of c reading reply
+IsRecordOf reading c record_ = (reply : Reply) → AreMaddItems (items_of reply) → record_ (text reply) ≡ record_of c reading reply

@@ -5,11 +5,11 @@ ghost use Rattle.ts_spec.specs.declared.command.At.TheVariants.{Time};
 ghost use Rattle.ts_spec.specs.Outcome.{time_of};
 ghost use Rattle.ts_spec.specs.Replies.{aggregator_name};
 ghost use Rattle.ts_labels.specs.Spec.{spec_of, change_of};
-ghost use Rattle.ts_journal.specs.Draft.{Puts};
+ghost use Rattle.ts_journal.specs.Draft.{AppendsWords};
 ghost use Rattle.ts_journal.specs.Record.{record_words, sample_words};
 
 use crate::draft::Draft;
-use crate::options::{put_change, put_on_duplicate, put_spec};
+use crate::options::{draft_change, draft_on_duplicate, draft_spec};
 use std::alloc::AllocError;
 use ts_agg::name;
 use ts_labels::{Change, Spec};
@@ -27,24 +27,26 @@ pub(crate) fn time_of(at: At, reading: u64) -> u64
     }
 }
 
-pub(crate) fn put_create(draft: &mut Draft, key: &Word, spec: &Spec) -> Result<(), AllocError>
-    ensures { OnOk result (Puts draft.old draft.new (record_words 0 (command.Create key.now (spec_of spec.now)))) }
+pub(crate) fn draft_create(draft: &mut Draft, key: &Word, spec: &Spec) -> Result<(), AllocError>
+    ensures { OnOk result
+        (AppendsWords draft.old draft.new (record_words 0 (command.Create key.now (spec_of spec.now)))) }
 {
     draft.put(b"TS.CREATE")?;
     draft.put_word(key)?;
-    put_spec(draft, spec)
+    draft_spec(draft, spec)
 }
 
-pub(crate) fn put_alter(draft: &mut Draft, key: &Word, change: &Change) -> Result<(), AllocError>
-    ensures { OnOk result (Puts draft.old draft.new (record_words 0 (command.Alter key.now (change_of change.now)))) }
+pub(crate) fn draft_alter(draft: &mut Draft, key: &Word, change: &Change) -> Result<(), AllocError>
+    ensures { OnOk result
+        (AppendsWords draft.old draft.new (record_words 0 (command.Alter key.now (change_of change.now)))) }
 {
     draft.put(b"TS.ALTER")?;
     draft.put_word(key)?;
-    put_change(draft, change)
+    draft_change(draft, change)
 }
 
 // TS.ADD, with its time resolved.
-pub(crate) fn put_add(
+pub(crate) fn draft_add(
     draft: &mut Draft,
     key: &Word,
     time: u64,
@@ -52,41 +54,45 @@ pub(crate) fn put_add(
     on: Option<Policy>,
     spec: &Spec,
 ) -> Result<(), AllocError>
-    ensures { OnOk result (Puts draft.old draft.new (record_words 0 (command.Add key.now (Time time) value on (spec_of spec.now)))) }
+    ensures { OnOk result
+        (AppendsWords draft.old draft.new
+        (record_words 0 (command.Add key.now (Time time) value on (spec_of spec.now)))) }
 {
     draft.put(b"TS.ADD")?;
     draft.put_word(key)?;
     draft.put_number(time)?;
     draft.put_value(value)?;
-    put_on_duplicate(draft, on)?;
-    put_spec(draft, spec)
+    draft_on_duplicate(draft, on)?;
+    draft_spec(draft, spec)
 }
 
 // TS.INCRBY, with its time resolved. A TS.DECRBY has a negative value.
-pub(crate) fn put_incr(
+pub(crate) fn draft_incr(
     draft: &mut Draft,
     key: &Word,
     change: Units,
     time: u64,
     spec: &Spec,
 ) -> Result<(), AllocError>
-    ensures { OnOk result (Puts draft.old draft.new (record_words 0 (command.Incr key.now change (Time time) (spec_of spec.now)))) }
+    ensures { OnOk result
+        (AppendsWords draft.old draft.new
+        (record_words 0 (command.Incr key.now change (Time time) (spec_of spec.now)))) }
 {
     draft.put(b"TS.INCRBY")?;
     draft.put_word(key)?;
     draft.put_value(change)?;
     draft.put(b"TIMESTAMP")?;
     draft.put_number(time)?;
-    put_spec(draft, spec)
+    draft_spec(draft, spec)
 }
 
-pub(crate) fn put_del_range(
+pub(crate) fn draft_del_range(
     draft: &mut Draft,
     key: &Word,
     from: u64,
     to: u64,
 ) -> Result<(), AllocError>
-    ensures { OnOk result (Puts draft.old draft.new (record_words 0 (command.DelRange key.now from to))) }
+    ensures { OnOk result (AppendsWords draft.old draft.new (record_words 0 (command.DelRange key.now from to))) }
 {
     draft.put(b"TS.DEL")?;
     draft.put_word(key)?;
@@ -94,7 +100,7 @@ pub(crate) fn put_del_range(
     draft.put_number(to)
 }
 
-pub(crate) fn put_create_rule(
+pub(crate) fn draft_create_rule(
     draft: &mut Draft,
     source: &Word,
     dest: &Word,
@@ -102,44 +108,46 @@ pub(crate) fn put_create_rule(
     align: u64,
     duration: u64,
 ) -> Result<(), AllocError>
-    ensures { OnOk result (Puts draft.old draft.new (record_words 0 (command.CreateRule source.now dest.now agg (record { align = align; duration = duration })))) }
+    ensures { OnOk result
+        (AppendsWords draft.old draft.new
+        (record_words 0 (command.CreateRule source.now dest.now agg (record { align = align; duration = duration })))) }
 {
     draft.put(b"TS.CREATERULE")?;
     draft.put_word(source)?;
     draft.put_word(dest)?;
     draft.put(b"AGGREGATION")?;
-    put_aggregator(draft, agg)?;
+    draft_aggregator(draft, agg)?;
     draft.put_number(duration)?;
     draft.put_number(align)
 }
 
-fn put_aggregator(draft: &mut Draft, agg: Aggregator) -> Result<(), AllocError>
-    ensures { OnOk result (Puts draft.old draft.new (aggregator_name agg ∷ [])) }
+fn draft_aggregator(draft: &mut Draft, agg: Aggregator) -> Result<(), AllocError>
+    ensures { OnOk result (AppendsWords draft.old draft.new (aggregator_name agg ∷ [])) }
 {
     draft.put(name(agg).as_bytes())
 }
 
-pub(crate) fn put_delete_rule(
+pub(crate) fn draft_delete_rule(
     draft: &mut Draft,
     source: &Word,
     dest: &Word,
 ) -> Result<(), AllocError>
-    ensures { OnOk result (Puts draft.old draft.new (record_words 0 (command.DeleteRule source.now dest.now))) }
+    ensures { OnOk result (AppendsWords draft.old draft.new (record_words 0 (command.DeleteRule source.now dest.now))) }
 {
     draft.put(b"TS.DELETERULE")?;
     draft.put_word(source)?;
     draft.put_word(dest)
 }
 
-pub(crate) fn put_drop(draft: &mut Draft, keys: &[Word]) -> Result<(), AllocError>
-    ensures { OnOk result (Puts draft.old draft.new (record_words 0 (command.Drop keys.now))) }
+pub(crate) fn draft_drop(draft: &mut Draft, keys: &[Word]) -> Result<(), AllocError>
+    ensures { OnOk result (AppendsWords draft.old draft.new (record_words 0 (command.Drop keys.now))) }
 {
     draft.put(b"DEL")?;
-    put_keys(draft, keys)
+    draft_keys(draft, keys)
 }
 
-fn put_keys(draft: &mut Draft, keys: &[Word]) -> Result<(), AllocError>
-    ensures { OnOk result (Puts draft.old draft.new keys.now) }
+fn draft_keys(draft: &mut Draft, keys: &[Word]) -> Result<(), AllocError>
+    ensures { OnOk result (AppendsWords draft.old draft.new keys.now) }
 {
     for key in keys {
         draft.put_word(key)?;
@@ -148,13 +156,13 @@ fn put_keys(draft: &mut Draft, keys: &[Word]) -> Result<(), AllocError>
 }
 
 // A sample of TS.MADD, with its time resolved.
-pub(crate) fn put_sample(
+pub(crate) fn draft_sample(
     draft: &mut Draft,
     key: &Word,
     time: u64,
     value: Units,
 ) -> Result<(), AllocError>
-    ensures { OnOk result (Puts draft.old draft.new (sample_words 0 key.now (Ok (Time time)) (Ok value))) }
+    ensures { OnOk result (AppendsWords draft.old draft.new (sample_words 0 key.now (Ok (Time time)) (Ok value))) }
 {
     draft.put_word(key)?;
     draft.put_number(time)?;

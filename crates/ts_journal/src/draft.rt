@@ -20,11 +20,11 @@ pub(crate) struct Draft {
 impl Draft {
     ghost use Rattle.ts_spec.specs.Encoded.{encoded_request};
     ghost use Rattle.ts_spec.specs.Wire.{Request};
-    ghost use Rattle.ts_journal.specs.Draft.{Has, Puts};
+    ghost use Rattle.ts_journal.specs.Draft.{HasWords, AppendsWords};
 
     // Creates one without arguments.
     pub(crate) fn new(alloc: Global) -> Result<Draft, AllocError>
-        ensures { IfOk result (Has []) }
+        ensures { IfOk result (HasWords []) }
     {
         let mut out = Out::new(alloc)?;
         open_array(&mut out);
@@ -33,7 +33,7 @@ impl Draft {
 
     // Appends an argument.
     pub(crate) fn put(&mut self, word: &[u8]) -> Result<(), AllocError>
-        ensures { OnOk result (Puts self.old self.new (word.now ∷ [])) }
+        ensures { OnOk result (AppendsWords self.old self.new (word.now ∷ [])) }
     {
         self.words = self.words.checked_add(1).ok_or(AllocError)?;
         encode_bulk(word, &mut self.out)
@@ -41,21 +41,21 @@ impl Draft {
 
     // Appends an argument of another request.
     pub(crate) fn put_word(&mut self, word: &Word) -> Result<(), AllocError>
-        ensures { OnOk result (Puts self.old self.new (word.now ∷ [])) }
+        ensures { OnOk result (AppendsWords self.old self.new (word.now ∷ [])) }
     {
         self.put(word.bytes())
     }
 
     // Appends a number in decimal.
     pub(crate) fn put_number(&mut self, number: u64) -> Result<(), AllocError>
-        ensures { OnOk result (Puts self.old self.new (decimal number ∷ [])) }
+        ensures { OnOk result (AppendsWords self.old self.new (decimal number ∷ [])) }
     {
         self.put(Buffer::new().format(number).as_bytes())
     }
 
     // Appends a value as it is printed.
     pub(crate) fn put_value(&mut self, value: Units) -> Result<(), AllocError>
-        ensures { OnOk result (Puts self.old self.new (shown_value value ∷ [])) }
+        ensures { OnOk result (AppendsWords self.old self.new (shown_value value ∷ [])) }
     {
         self.put(print(value, &mut [0; 32]))
     }
@@ -63,7 +63,7 @@ impl Draft {
     // Fills in the header and returns the whole request.
     pub(crate) fn close(self) -> Out
         requires { 24 ≤ length self.out.bytes }
-        ensures { (words : Request) → Has words self → result.bytes ≡ encoded_request words }
+        ensures { (words : Request) → HasWords words self → result.bytes ≡ encoded_request words }
     {
         let mut out = self.out;
         close_array(self.words, &mut out);
@@ -76,19 +76,19 @@ pub(crate) const GAP: usize = 24;
 
 // Writes the header of a request with this many words so that it ends where the gap does. Returns the offset where it
 // starts.
-pub(crate) fn put_head(words: usize, room: &mut [u8]) -> usize
+pub(crate) fn write_header_in_gap(words: usize, room: &mut [u8]) -> usize
     requires { 24 ≤ length room.old }
     ensures text { drop result room.new ≡ line_text 42 (decimal words) ++ drop 24 room.old }
     ensures start { result ≤ 24 }
     ensures len { length room.new ≡ length room.old }
 {
-    let place = put_before(b"\r\n", GAP, room);
+    let place = write_ending_at(b"\r\n", GAP, room);
     let place = write_digits(words as u64, room, place);
-    put_before(b"*", place, room)
+    write_ending_at(b"*", place, room)
 }
 
 // Writes bytes that end at offset `place`, and returns the offset where they start.
-fn put_before(bytes: &[u8], place: usize, room: &mut [u8]) -> usize
+fn write_ending_at(bytes: &[u8], place: usize, room: &mut [u8]) -> usize
     requires from { length bytes.now ≤ place }
     requires to { place ≤ length room.old }
     ensures text { drop result room.new ≡ bytes.now ++ drop place room.old }

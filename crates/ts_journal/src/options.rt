@@ -2,8 +2,10 @@
 ghost use Rattle.std.specs.Prelude.{◌≡◌, [], OnOk};
 ghost use Rattle.ts_spec.specs.Labels as labels;
 ghost use Rattle.ts_labels.specs.Spec.{spec_of, change_of};
-ghost use Rattle.ts_journal.specs.Draft.{Puts};
-ghost use Rattle.ts_journal.specs.Record.{given, retention_words, encoding_words, chunk_size_words, policy_words, on_duplicate_words, ignore_words, label_pairs, labels_words, spec_words, change_words};
+ghost use Rattle.ts_journal.specs.Draft.{AppendsWords};
+ghost use Rattle.ts_journal.specs.Record.{given, retention_words, encoding_words, chunk_size_words, policy_words};
+ghost use Rattle.ts_journal.specs.Record.{on_duplicate_words, ignore_words, label_pairs, labels_words, spec_words};
+ghost use Rattle.ts_journal.specs.Record.{change_words};
 ghost use Rattle.ts_journal.specs.Record as record_;
 
 use crate::draft::Draft;
@@ -12,32 +14,35 @@ use ts_labels::{Change, Labels, Spec};
 use ts_spec::{Encoding, Ignore, Policy};
 
 // All options of a new series.
-pub(crate) fn put_spec(draft: &mut Draft, spec: &Spec) -> Result<(), AllocError>
-    ensures { OnOk result (Puts draft.old draft.new (spec_words (spec_of spec.now))) }
+pub(crate) fn draft_spec(draft: &mut Draft, spec: &Spec) -> Result<(), AllocError>
+    ensures { OnOk result (AppendsWords draft.old draft.new (spec_words (spec_of spec.now))) }
 {
     let options = &spec.options;
-    put_retention(draft, Some(options.retention))?;
-    put_encoding(draft, options.encoding)?;
-    put_chunk_size(draft, Some(options.chunk_size))?;
-    put_policy(draft, Some(options.policy))?;
-    put_ignore(draft, Some(options.ignore))?;
-    put_labels(draft, &spec.labels)
+    draft_retention(draft, Some(options.retention))?;
+    draft_encoding(draft, options.encoding)?;
+    draft_chunk_size(draft, Some(options.chunk_size))?;
+    draft_policy(draft, Some(options.policy))?;
+    draft_ignore(draft, Some(options.ignore))?;
+    draft_labels(draft, &spec.labels)
 }
 
 // The options that TS.ALTER changes.
-pub(crate) fn put_change(draft: &mut Draft, change: &Change) -> Result<(), AllocError>
-    ensures { OnOk result (Puts draft.old draft.new (change_words (change_of change.now))) }
+pub(crate) fn draft_change(draft: &mut Draft, change: &Change) -> Result<(), AllocError>
+    ensures { OnOk result (AppendsWords draft.old draft.new (change_words (change_of change.now))) }
 {
-    put_retention(draft, change.retention)?;
-    put_chunk_size(draft, change.chunk_size)?;
-    put_policy(draft, change.policy)?;
-    put_ignore(draft, change.ignore)?;
-    put_labels_given(draft, &change.labels)
+    draft_retention(draft, change.retention)?;
+    draft_chunk_size(draft, change.chunk_size)?;
+    draft_policy(draft, change.policy)?;
+    draft_ignore(draft, change.ignore)?;
+    draft_given_labels(draft, &change.labels)
 }
 
 // The policy of one write, if it has one.
-pub(crate) fn put_on_duplicate(draft: &mut Draft, policy: Option<Policy>) -> Result<(), AllocError>
-    ensures { OnOk result (Puts draft.old draft.new (given on_duplicate_words policy)) }
+pub(crate) fn draft_on_duplicate(
+    draft: &mut Draft,
+    policy: Option<Policy>,
+) -> Result<(), AllocError>
+    ensures { OnOk result (AppendsWords draft.old draft.new (given on_duplicate_words policy)) }
 {
     let Some(policy) = policy else {
         return Ok(());
@@ -46,8 +51,8 @@ pub(crate) fn put_on_duplicate(draft: &mut Draft, policy: Option<Policy>) -> Res
     draft.put(policy_name(policy))
 }
 
-fn put_retention(draft: &mut Draft, retention: Option<u64>) -> Result<(), AllocError>
-    ensures { OnOk result (Puts draft.old draft.new (given retention_words retention)) }
+fn draft_retention(draft: &mut Draft, retention: Option<u64>) -> Result<(), AllocError>
+    ensures { OnOk result (AppendsWords draft.old draft.new (given retention_words retention)) }
 {
     let Some(retention) = retention else {
         return Ok(());
@@ -56,15 +61,15 @@ fn put_retention(draft: &mut Draft, retention: Option<u64>) -> Result<(), AllocE
     draft.put_number(retention)
 }
 
-fn put_encoding(draft: &mut Draft, encoding: Encoding) -> Result<(), AllocError>
-    ensures { OnOk result (Puts draft.old draft.new (encoding_words encoding)) }
+fn draft_encoding(draft: &mut Draft, encoding: Encoding) -> Result<(), AllocError>
+    ensures { OnOk result (AppendsWords draft.old draft.new (encoding_words encoding)) }
 {
     draft.put(b"ENCODING")?;
     draft.put(encoding_name(encoding))
 }
 
-fn put_chunk_size(draft: &mut Draft, bytes: Option<u32>) -> Result<(), AllocError>
-    ensures { OnOk result (Puts draft.old draft.new (given chunk_size_words bytes)) }
+fn draft_chunk_size(draft: &mut Draft, bytes: Option<u32>) -> Result<(), AllocError>
+    ensures { OnOk result (AppendsWords draft.old draft.new (given chunk_size_words bytes)) }
 {
     let Some(bytes) = bytes else {
         return Ok(());
@@ -73,8 +78,8 @@ fn put_chunk_size(draft: &mut Draft, bytes: Option<u32>) -> Result<(), AllocErro
     draft.put_number(u64::from(bytes))
 }
 
-fn put_policy(draft: &mut Draft, policy: Option<Policy>) -> Result<(), AllocError>
-    ensures { OnOk result (Puts draft.old draft.new (given policy_words policy)) }
+fn draft_policy(draft: &mut Draft, policy: Option<Policy>) -> Result<(), AllocError>
+    ensures { OnOk result (AppendsWords draft.old draft.new (given policy_words policy)) }
 {
     let Some(policy) = policy else {
         return Ok(());
@@ -83,8 +88,8 @@ fn put_policy(draft: &mut Draft, policy: Option<Policy>) -> Result<(), AllocErro
     draft.put(policy_name(policy))
 }
 
-fn put_ignore(draft: &mut Draft, ignore: Option<Ignore>) -> Result<(), AllocError>
-    ensures { OnOk result (Puts draft.old draft.new (given ignore_words ignore)) }
+fn draft_ignore(draft: &mut Draft, ignore: Option<Ignore>) -> Result<(), AllocError>
+    ensures { OnOk result (AppendsWords draft.old draft.new (given ignore_words ignore)) }
 {
     let Some(ignore) = ignore else {
         return Ok(());
@@ -94,25 +99,25 @@ fn put_ignore(draft: &mut Draft, ignore: Option<Ignore>) -> Result<(), AllocErro
     draft.put_value(ignore.value)
 }
 
-fn put_labels_given(draft: &mut Draft, labels: &Option<Labels>) -> Result<(), AllocError>
-    ensures { OnOk result (Puts draft.old draft.new (given labels_words labels.now)) }
+fn draft_given_labels(draft: &mut Draft, labels: &Option<Labels>) -> Result<(), AllocError>
+    ensures { OnOk result (AppendsWords draft.old draft.new (given labels_words labels.now)) }
 {
     match labels {
-        Some(labels) => put_labels(draft, labels),
+        Some(labels) => draft_labels(draft, labels),
         None => Ok(()),
     }
 }
 
-fn put_labels(draft: &mut Draft, labels: &Labels) -> Result<(), AllocError>
-    ensures { OnOk result (Puts draft.old draft.new (labels_words labels.now)) }
+fn draft_labels(draft: &mut Draft, labels: &Labels) -> Result<(), AllocError>
+    ensures { OnOk result (AppendsWords draft.old draft.new (labels_words labels.now)) }
 {
     draft.put(b"LABELS")?;
-    put_pairs(draft, labels)
+    draft_label_pairs(draft, labels)
 }
 
 // Labels and their values, alternating.
-fn put_pairs(draft: &mut Draft, labels: &Labels) -> Result<(), AllocError>
-    ensures { OnOk result (Puts draft.old draft.new (label_pairs labels.now)) }
+fn draft_label_pairs(draft: &mut Draft, labels: &Labels) -> Result<(), AllocError>
+    ensures { OnOk result (AppendsWords draft.old draft.new (label_pairs labels.now)) }
 {
     for i in 0..labels.len() {
         draft.put_word(labels.label_at(i))?;

@@ -2,7 +2,7 @@
 ghost use Rattle.std.specs.Prelude.{◌≡◌, is_some, IfOk, IfSome};
 
 use crate::draft::Draft;
-use crate::fixed::{is_fixed, put_fixed};
+use crate::fixed::{draft_fixed, is_fixed};
 use crate::reply::is_error;
 use crate::triples::Triples;
 use std::alloc::{AllocError, Global};
@@ -38,7 +38,8 @@ impl Record {
         reading: u64,
     ) -> Result<Option<Record>, AllocError>
         ensures change { IfOk result (λ r. is_some r ≡ is_change (command_of command.now)) }
-        ensures record { IfOk result (λ r. IfSome r (λ record_. IsRecordOf reading (command_of command.now) (told record_))) }
+        ensures record { IfOk result
+            (λ r. IfSome r (λ record_. IsRecordOf reading (command_of command.now) (told record_))) }
     {
         if let Command::Madd { triples } = command {
             let triples = Triples::take(alloc, triples, reading)?;
@@ -50,7 +51,7 @@ impl Record {
             return Ok(None);
         }
         let mut draft = Draft::new(alloc)?;
-        put_fixed(&mut draft, command, reading)?;
+        draft_fixed(&mut draft, command, reading)?;
         Ok(Some(Record {
             held: Content::Fixed(draft.close()),
         }))
@@ -66,7 +67,7 @@ impl Record {
         }
         match &mut self.held {
             Content::Fixed(out) => out.bytes(),
-            Content::Triples(triples) => triples.taken(reply),
+            Content::Triples(triples) => triples.accepted_part(reply),
         }
     }
 }

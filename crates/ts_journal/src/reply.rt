@@ -1,6 +1,7 @@
 // What the text of a reply says about a change.
 ghost use Rattle.std.specs.Prelude.{◌≡◌, ◌≤◌, ◌+◌, [], ◌++◌, if◌then◌else◌, min, length, sum};
-ghost use Rattle.ts_journal.specs.Lines.{after_line, begins_error, items_text, begins_number, pieces, taken_by, joined, words_in};
+ghost use Rattle.ts_journal.specs.Lines.{after_line, begins_error, items_text, begins_number, pieces, accepted_pieces};
+ghost use Rattle.ts_journal.specs.Lines.{joined, words_in};
 
 use bytes::BytesMut;
 
@@ -41,7 +42,7 @@ pub(crate) fn is_error(reply: &[u8]) -> bool
 }
 
 // Appends the pieces whose items are numbers, and returns how many arguments they have. The buffer has the capacity.
-pub(crate) fn add_taken(
+pub(crate) fn append_accepted(
     mut bytes: &[u8],
     lens: &[usize],
     mut items: &[u8],
@@ -49,15 +50,16 @@ pub(crate) fn add_taken(
 ) -> usize
     requires lens { sum lens.now ≤ length bytes.now }
     requires room { length bytes.now ≤ room.old.spare }
-    ensures bytes { room.new.items ≡ room.old.items ++ joined (taken_by items.entry.now (pieces lens.now bytes.entry.now)) }
+    ensures bytes { room.new.items
+        ≡ room.old.items ++ joined (accepted_pieces items.entry.now (pieces lens.now bytes.entry.now)) }
     ensures total { length room.new.items + room.new.spare ≡ length room.old.items + room.old.spare }
     ensures few { result ≤ length room.new.items }
-    ensures words { result ≡ words_in (taken_by items.entry.now (pieces lens.now bytes.entry.now)) }
+    ensures words { result ≡ words_in (accepted_pieces items.entry.now (pieces lens.now bytes.entry.now)) }
 {
     let mut words = 0;
     for len in lens {
         let (piece, rest) = bytes.split_at(*len);
-        words += add_if(begins_number(items), piece, room);
+        words += append_if(begins_number(items), piece, room);
         items = after_line(items);
         bytes = rest;
     }
@@ -66,7 +68,7 @@ pub(crate) fn add_taken(
 
 // Appends a piece if it is wanted, and returns how many arguments it has. An empty piece belongs to a triple without a
 // time or a value; any other has three.
-fn add_if(wanted: bool, piece: &[u8], room: &mut BytesMut) -> usize
+fn append_if(wanted: bool, piece: &[u8], room: &mut BytesMut) -> usize
     requires { length piece.now ≤ room.old.spare }
     ensures bytes { room.new.items ≡ room.old.items ++ (if wanted then piece.now else []) }
     ensures words { result ≡ (if wanted then min 3 (length piece.now) else 0) }

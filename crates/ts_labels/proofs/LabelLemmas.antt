@@ -6,7 +6,7 @@ use Rattle.std.specs.Map.{lookup, keys_of}
 use Rattle.indexmap.specs.IndexMap.{insert_entry}
 use Rattle.ts_spec.specs.Key.{Key, same}
 use Rattle.ts_spec.specs.State.{Label}
-use Rattle.ts_spec.specs.Filter.{value_of, is_among}
+use Rattle.ts_spec.specs.Filter.{value_of, is_one_of}
 use Rattle.ts_spec.specs.Labels.{with_label}
 use Rattle.ts_spec.proofs.Keys.{same-sym, same-true}
 use Rattle.ts_labels.specs.Labels.{AreDistinct, labelled, labels_in}
@@ -70,6 +70,6 @@ with_label-next (l ∷ ls) (suc i) name value d e f =
     rw (same-sym l.name name, apart l.name name ls i d.0 e) (ap (λ xs. l ∷ xs) (with_label-next ls i name value d.1 e f))
 
 -- a value is among these, where it is equal to one
-pub list_any-is_among : (values : List Key) (value : Key) → list_any (λ v. pointwise nat_eq v value) values ≡ is_among values value
-list_any-is_among [] value = refl
-list_any-is_among (v ∷ values) value = rw (straight v value, list_any-is_among values value) refl
+pub list_any-is_one_of : (values : List Key) (value : Key) → list_any (λ v. pointwise nat_eq v value) values ≡ is_one_of values value
+list_any-is_one_of [] value = refl
+list_any-is_one_of (v ∷ values) value = rw (straight v value, list_any-is_one_of values value) refl

@@ -18,5 +18,5 @@ IsMemory (Memory error) = ⊤
 IsMemory fault = ⊥
 
 -- the values of a list, split at commas; an empty value is an error
-abbrev pub listed : List ℕ → Result (List (List ℕ)) spec.FilterFault
-listed text = if has_empty (pieces comma text) then Err spec.EmptyList else Ok (pieces comma text)
+abbrev pub list_values : List ℕ → Result (List (List ℕ)) spec.FilterFault
+list_values text = if has_empty (pieces comma text) then Err spec.EmptyList else Ok (pieces comma text)

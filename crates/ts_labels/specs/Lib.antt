@@ -1,7 +1,7 @@
 pub mod Spec
 pub mod Labels
 pub mod Pairs
-pub mod Asks
+pub mod LabelCondition
 pub mod Filter
 pub mod Faults
 pub mod FaultNames

@@ -3,7 +3,7 @@ ghost use Rattle.std.specs.Prelude.{◌≡◌, ◌+◌};
 ghost use Rattle.std.specs.Option.{option_copied};
 ghost use Rattle.ts_spec.specs.Filter.{holds, is_positive, has_positive, has_one_of};
 ghost use Rattle.ts_spec.specs.FilterText.{filter_by};
-ghost use Rattle.ts_labels.specs.Filter.{label_of, values_wanted};
+ghost use Rattle.ts_labels.specs.Filter.{label_of, required_values};
 
 use crate::labels::Labels;
 use std::marker::Model;
@@ -13,11 +13,11 @@ use ts_sample::Steps;
 
 // The condition on the label.
 #[derive(Debug, Drop)]
-pub(crate) enum Asks {
+pub(crate) enum LabelCondition {
     // The label has one of these values.
-    Among(Vec<Word>),
+    OneOf(Vec<Word>),
     // The label is missing, or has none of these values.
-    NotAmong(Vec<Word>),
+    NoneOf(Vec<Word>),
     Absent,
     Present,
 }
@@ -27,7 +27,7 @@ pub(crate) enum Asks {
 #[derive(Debug, Drop)]
 pub struct Filter {
     label: Word,
-    asks: Asks,
+    asks: LabelCondition,
 }
 
 impl Model for Filter {
@@ -35,7 +35,7 @@ impl Model for Filter {
 
     ghost Value = { Asked };
 
-    ghost use Rattle.ts_labels.specs.Asks.{filter_in};
+    ghost use Rattle.ts_labels.specs.LabelCondition.{filter_in};
 
     ghost view = { λ f. filter_in f.label f.asks };
 }
@@ -46,10 +46,10 @@ impl Filter {
         ensures { result ≡ filter_by positive label values.items }
     {
         let asks = match (positive, values.is_empty()) {
-            (true, true) => Asks::Absent,
-            (true, false) => Asks::Among(values),
-            (false, true) => Asks::Present,
-            (false, false) => Asks::NotAmong(values),
+            (true, true) => LabelCondition::Absent,
+            (true, false) => LabelCondition::OneOf(values),
+            (false, true) => LabelCondition::Present,
+            (false, false) => LabelCondition::NoneOf(values),
         };
         Filter { label, asks }
     }
@@ -63,10 +63,10 @@ impl Filter {
 
     /// The accepted values. Empty for a filter that does not require a value.
     pub fn wanted(&self) -> &[Word]
-        ensures { result.now ≡ values_wanted self.now }
+        ensures { result.now ≡ required_values self.now }
     {
         match &self.asks {
-            Asks::Among(values) => values.as_slice(),
+            LabelCondition::OneOf(values) => values.as_slice(),
             _ => &[],
         }
     }
@@ -79,10 +79,10 @@ impl Filter {
         steps.tick();
         let value = labels.get(&self.label);
         match &self.asks {
-            Asks::Among(values) => has_one_of(values, value),
-            Asks::NotAmong(values) => !has_one_of(values, value),
-            Asks::Absent => value.is_none(),
-            Asks::Present => value.is_some(),
+            LabelCondition::OneOf(values) => has_one_of(values, value),
+            LabelCondition::NoneOf(values) => !has_one_of(values, value),
+            LabelCondition::Absent => value.is_none(),
+            LabelCondition::Present => value.is_some(),
         }
     }
 
@@ -90,7 +90,7 @@ impl Filter {
     pub fn is_positive(&self) -> bool
         ensures { result ≡ is_positive self.now }
     {
-        matches!(&self.asks, Asks::Among(_))
+        matches!(&self.asks, LabelCondition::OneOf(_))
     }
 }
 

@@ -4,7 +4,7 @@ ghost use Rattle.std.specs.Option.{option_copied};
 ghost use Rattle.ts_spec.specs.FilterText.{filter_of, of_label, values_of, cut_at, before_last, comma, pieces};
 ghost use Rattle.ts_spec.specs.FilterText.{has_empty};
 ghost use Rattle.ts_labels.specs.FaultNames.{name_of};
-ghost use Rattle.ts_labels.specs.Faults.{IsFaultOf, IsMemory, listed};
+ghost use Rattle.ts_labels.specs.Faults.{IsFaultOf, IsMemory, list_values};
 
 use crate::filter::Filter;
 use std::alloc::{AllocError, Global};
@@ -86,7 +86,7 @@ fn values_of(alloc: Global, text: &[u8]) -> Result<Vec<Word>, FilterFault>
     };
     if *first == b'(' {
         if let Some(inner) = before_last(b')', rest) {
-            return listed(alloc, inner);
+            return list_values(alloc, inner);
         }
     }
     one_value(alloc, text)
@@ -103,9 +103,9 @@ fn one_value(alloc: Global, text: &[u8]) -> Result<Vec<Word>, FilterFault>
 }
 
 // The values of a list, split at commas. An empty value is an error.
-fn listed(alloc: Global, list: &[u8]) -> Result<Vec<Word>, FilterFault>
-    ensures ok { IfOk result (λ values. listed list.now ≡ Ok values.items) }
-    ensures fault { IfErr result (λ fault. IsFaultOf fault (listed list.now)) }
+fn list_values(alloc: Global, list: &[u8]) -> Result<Vec<Word>, FilterFault>
+    ensures ok { IfOk result (λ values. list_values list.now ≡ Ok values.items) }
+    ensures fault { IfErr result (λ fault. IsFaultOf fault (list_values list.now)) }
 {
     if has_empty_piece(list) {
         return Err(FilterFault::EmptyList);

@@ -62,26 +62,26 @@ impl Labels {
         {
             return pairs.set(self.alloc, label, value);
         }
-        let mut pairs = self.copied()?;
+        let mut pairs = self.deep_copy()?;
         pairs.set(self.alloc, label, value)?;
         self.pairs = Some(Rc::new(self.alloc, pairs)?);
         Ok(())
     }
 
     // A copy that shares no storage.
-    fn copied(&self) -> Result<Pairs, AllocError>
+    fn deep_copy(&self) -> Result<Pairs, AllocError>
         ensures { IfOk result (λ pairs. pairs ≡ self.now) }
     {
         self.known();
-        let mut copied = Pairs::with_capacity(self.alloc, self.len() + 1)?;
+        let mut deep_copy = Pairs::with_capacity(self.alloc, self.len() + 1)?;
         for i in 0..self.len() {
-            copied.set(
+            deep_copy.set(
                 self.alloc,
                 self.label_at(i).copy()?,
                 self.value_at(i).copy()?,
             )?;
         }
-        Ok(copied)
+        Ok(deep_copy)
     }
 
     /// A copy that shares storage. Allocates nothing. Fails if too many copies share it already.

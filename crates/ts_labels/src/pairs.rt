@@ -13,7 +13,7 @@ use std::mem::replace;
 use ts_resp::Word;
 
 // Up to this many labels are stored in a list and searched linearly.
-const FEW: usize = 8;
+const MAX_LINEAR: usize = 8;
 
 // A list if there are few labels, a hash map otherwise.
 #[derive(Debug, Drop)]
@@ -42,11 +42,11 @@ impl Model for Pairs {
 }
 
 impl Pairs {
-    // No labels, with capacity for `pairs` labels (at most `FEW` are reserved).
+    // No labels, with capacity for `pairs` labels (at most `MAX_LINEAR` are reserved).
     pub(crate) fn with_capacity(alloc: Global, pairs: usize) -> Result<Pairs, AllocError>
         ensures { IfOk result (λ pairs. pairs ≡ []) }
     {
-        let few = Vec::with_capacity(alloc, pairs.min(FEW))?;
+        let few = Vec::with_capacity(alloc, pairs.min(MAX_LINEAR))?;
         Ok(Pairs {
             held: Storage::Few(few),
         })
@@ -63,7 +63,7 @@ impl Pairs {
                 map.insert(label, value)?;
             }
             Storage::Few(pairs) => {
-                if pairs.len() < FEW {
+                if pairs.len() < MAX_LINEAR {
                     return set_few(pairs, label, value);
                 }
                 let mut map = hashed(alloc, pairs.as_slice())?;
@@ -80,7 +80,7 @@ impl Pairs {
     {
         match &self.held {
             Storage::Many(map) => map.get(label),
-            Storage::Few(pairs) => match place_of(pairs.as_slice(), label) {
+            Storage::Few(pairs) => match index_of(pairs.as_slice(), label) {
                 Some(place) => Some(&pairs[place].1),
                 None => None,
             },
@@ -112,7 +112,7 @@ impl Pairs {
 }
 
 // The index of a label in the list.
-fn place_of(pairs: &[(Word, Word)], label: &Word) -> Option<usize>
+fn index_of(pairs: &[(Word, Word)], label: &Word) -> Option<usize>
     ensures place { IfSome result (λ i. option_map (λ l. l.name) (slice_get (labels_in pairs.now) i) ≡ Some label.now) }
     ensures within { IfSome result (λ i. i < length pairs.now) }
     ensures value { IfSome result (λ i. option_map (λ l. l.value) (slice_get (labels_in pairs.now) i)
@@ -135,7 +135,7 @@ fn set_few(pairs: &mut Vec<(Word, Word)>, label: Word, value: Word) -> Result<()
     ensures err { OnErr result (pairs.new.items ≡ pairs.old.items) }
     ensures distinct { AreDistinct (labels_in pairs.new.items) }
 {
-    match place_of(pairs.as_slice(), &label) {
+    match index_of(pairs.as_slice(), &label) {
         Some(place) => {
             let _old = replace(&mut pairs[place], (label, value));
             Ok(())

@@ -3,7 +3,7 @@ use Rattle.std.proofs.Common.{◌≡◌, ℕ, zero, suc, List, [], ◌∷◌, �
 use Rattle.std.proofs.Math.Seq.{drop-cons}
 use Rattle.std.proofs.lemmas.Option.{slice_get_within, get_or_from_slice_get}
 use Rattle.ts_spec.specs.State.{Label}
-use Rattle.ts_spec.specs.Questions.{shown_label}
+use Rattle.ts_spec.specs.Queries.{shown_label}
 
 -- the label at a place is shown with its name and its value
 pub shown-at : (ls : List Label) (i : ℕ) (name value : List ℕ)

@@ -3,24 +3,24 @@ use Rattle.std.proofs.Common.{◌≡◌, ◌<◌, ◌≤◌, ◌^◌, ℕ, suc, 
 use Rattle.std.proofs.lemmas.List.{length-map}
 use Rattle.std.proofs.lemmas.Fmt.{length-decimal-le}
 use Rattle.std.specs.Fmt.{decimal}
-use Rattle.ts_spec.specs.Replies.{array, listed}
+use Rattle.ts_spec.specs.Replies.{array, reply_list}
 use Rattle.ts_spec.specs.Text.{Reply, CRLF, count_of, line_text, text, texts}
 
 -- what stands before an array is short
 pub short-head : (n : ℕ) → n < 2 ^ 64 → length (line_text 42 (decimal n)) ≤ 64
 short-head n within = omega (arith, length-append (decimal n) CRLF, length-decimal-le 20 n (omega arith) (omega arith) within)
 
-pub count-listed : (items : List Reply) → count_of (listed items) ≡ length items
-count-listed [] = refl
-count-listed (r ∷ items) = ap suc (count-listed items)
+pub count-reply_list : (items : List Reply) → count_of (reply_list items) ≡ length items
+count-reply_list [] = refl
+count-reply_list (r ∷ items) = ap suc (count-reply_list items)
 
 -- the texts of the items, one after another
 abbrev pub item_texts : {X : Type 0} → (X → Reply) → List X → List ℕ
-item_texts shown xs = texts (listed (map shown xs))
+item_texts shown xs = texts (reply_list (map shown xs))
 
 -- the line of their number, and these, are the text of their array
 pub array-text : {X : Type 0} (shown : X → Reply) (xs : List X) → line_text 42 (decimal (length xs)) ++ item_texts shown xs ≡ text (array (map shown xs))
-array-text shown xs = ap (λ (k : ℕ). line_text 42 (decimal k) ++ item_texts shown xs) (sym (length-map xs shown) ∙ sym (count-listed (map shown xs)))
+array-text shown xs = ap (λ (k : ℕ). line_text 42 (decimal k) ++ item_texts shown xs) (sym (length-map xs shown) ∙ sym (count-reply_list (map shown xs)))
 
 -- the texts of the items that are left, after those that were written, are those of all behind what was there at the start
 abbrev pub GoesOn : {X : Type 0} → (X → Reply) → (start now : List ℕ) → (rest all : List X) → Type 0

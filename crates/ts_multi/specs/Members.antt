@@ -4,7 +4,7 @@ use Rattle.std.specs.Option.{option_copied}
 use Rattle.std.specs.Fmt.{decimal}
 use Rattle.ts_spec.specs.State.{Label}
 use Rattle.ts_spec.specs.Answer.{Row}
-use Rattle.ts_spec.specs.Questions.{labels_shown}
+use Rattle.ts_spec.specs.Queries.{labels_shown}
 use Rattle.ts_spec.specs.Replies.{labels_reply}
 use Rattle.ts_spec.specs.Response as spec
 use Rattle.ts_spec.specs.Text.{Bulk, line_text, text}
@@ -12,10 +12,10 @@ use Rattle.ts_labels.specs.declared.labels.Show.{Show}
 use Rattle.ts_labels.specs.Show.{show_of}
 use Rattle.ts_range.specs.Query.{row_of}
 use Rattle.ts_multi.specs.declared.replies.Member.{Member}
-use Rattle.ts_multi.specs.declared.shown.Shown.{Shown}
+use Rattle.ts_multi.specs.declared.shown.ReplyLabel.{ReplyLabel}
 
 -- a label of a reply
-abbrev pub label_of : Shown → spec.ShownLabel
+abbrev pub label_of : ReplyLabel → spec.ShownLabel
 label_of s = record { name = s.name.now; value = option_copied s.value }
 
 -- a member with this key, these labels and these rows

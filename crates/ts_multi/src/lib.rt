@@ -9,5 +9,5 @@ mod shown;
 pub use member_replies::member_reply;
 pub use member_texts::{encode_head, encode_last_member, encode_member, encode_rows};
 pub use replies::{Member, multi, multi_last};
-pub use shown::{Shown, ShowsLabels};
+pub use shown::{ReplyLabel, ReplyLabelList};
 pub use ts_labels::Show;

@@ -7,13 +7,13 @@ ghost use Rattle.ts_resp.specs.Replies.{reply_of};
 ghost use Rattle.ts_range.specs.Query.{row_of};
 ghost use Rattle.ts_multi.specs.Members.{label_of, member_showing};
 
-use crate::shown::{Shown, ShowsLabels};
+use crate::shown::{ReplyLabel, ReplyLabelList};
 use std::alloc::{AllocError, Global};
 use ts_range::Row;
 use ts_resp::{Reply, Word};
 
 /// `[key, labels, rows]`.
-pub fn member_reply<S: ShowsLabels>(
+pub fn member_reply<S: ReplyLabelList>(
     alloc: Global,
     key: &[u8],
     labels: &S,
@@ -30,7 +30,7 @@ pub fn member_reply<S: ShowsLabels>(
 }
 
 // `[key, labels, row]`, with the first row, or an empty array if there is none.
-pub(crate) fn last_member_reply<S: ShowsLabels>(
+pub(crate) fn last_member_reply<S: ReplyLabelList>(
     alloc: Global,
     key: &[u8],
     labels: &S,
@@ -47,7 +47,7 @@ pub(crate) fn last_member_reply<S: ShowsLabels>(
 }
 
 // `[key, labels, last]`.
-fn reply_with<S: ShowsLabels>(
+fn reply_with<S: ReplyLabelList>(
     alloc: Global,
     key: &[u8],
     labels: &S,
@@ -62,19 +62,19 @@ fn reply_with<S: ShowsLabels>(
 }
 
 // The array of the labels that the reply shows.
-fn labels_reply<S: ShowsLabels>(alloc: Global, labels: &S) -> Result<Reply, AllocError>
+fn labels_reply<S: ReplyLabelList>(alloc: Global, labels: &S) -> Result<Reply, AllocError>
     ensures { IfOk result (λ reply. reply_of reply ≡ spec.labels_reply (S.shown labels.now)) }
 {
     let count = labels.count();
     let mut replies = Vec::with_capacity(alloc, count)?;
-    for place in 0..count {
-        replies.push_reserved(label_reply(alloc, labels.label(place))?);
+    for list_index in 0..count {
+        replies.push_reserved(label_reply(alloc, labels.label(list_index))?);
     }
     Ok(array(replies))
 }
 
 // `[label, value]`, with nil for an absent value.
-fn label_reply(alloc: Global, label: Shown<'_>) -> Result<Reply, AllocError>
+fn label_reply(alloc: Global, label: ReplyLabel<'_>) -> Result<Reply, AllocError>
     ensures { IfOk result (λ reply. reply_of reply ≡ spec.shown_label_reply (label_of label.entry)) }
 {
     let name = Reply::Bulk(Word::from_slice(alloc, label.name)?);

@@ -3,17 +3,18 @@
 ghost use Rattle.std.specs.Prelude.{◌≡◌, ◌+◌, ◌≤◌, ◌++◌, length, map, option_map, OnOk, OnErr};
 ghost use Rattle.ts_spec.specs.Text.{text};
 ghost use Rattle.ts_range.specs.Query.{row_of};
-ghost use Rattle.ts_spec.specs.Questions.{row_list};
+ghost use Rattle.ts_spec.specs.Queries.{row_list};
 ghost use Rattle.ts_multi.specs.Members.{member_with, label_of, head_text};
 ghost use Rattle.std.specs.Option.{option_copied};
 ghost use Rattle.ts_spec.specs.Replies as spec;
 
-use crate::shown::{SeriesLabels, Shown, ShowsLabels};
+use crate::shown::{ReplyLabel, ReplyLabelList, SeriesLabels};
 use std::alloc::AllocError;
 use ts_labels::{Labels, Show};
 use ts_range::Row;
 use ts_resp::{
-    Out, PAIR, Reply, Word, begin_array, encode, encode_bulk, encode_count, put_pair, reserve_items,
+    Out, PAIR_BYTES, Reply, Word, begin_array, encode, encode_bulk, encode_count, reserve_items,
+    write_pair,
 };
 
 /// Writes a member of the reply to TS.MRANGE or TS.MREVRANGE: an array of its key, its requested labels and its rows.
@@ -25,7 +26,8 @@ pub fn encode_member(
     rows: &[Row],
     out: &mut Out,
 ) -> Result<(), AllocError>
-    ensures ok { OnOk result (out.new.bytes ≡ out.old.bytes ++ text (spec.member_reply (member_with show.now key.now labels.now (map row_of rows.now)))) }
+    ensures ok { OnOk result (out.new.bytes
+        ≡ out.old.bytes ++ text (spec.member_reply (member_with show.now key.now labels.now (map row_of rows.now)))) }
     ensures room { length out.old.bytes + out.old.spare ≤ length out.new.bytes + out.new.spare }
 {
     encode_head(key.bytes(), &SeriesLabels { labels, show }, out)?;
@@ -41,7 +43,10 @@ pub fn encode_last_member(
     last: Option<Row>,
     out: &mut Out,
 ) -> Result<(), AllocError>
-    ensures ok { OnOk result (out.new.bytes ≡ out.old.bytes ++ text (spec.last_member_reply (member_with show.now key.now labels.now (row_list (option_map row_of last))))) }
+    ensures ok { OnOk result (out.new.bytes
+        ≡ out.old.bytes
+        ++ text (spec.last_member_reply (member_with show.now key.now labels.now
+        (row_list (option_map row_of last))))) }
     ensures room { length out.old.bytes + out.old.spare ≤ length out.new.bytes + out.new.spare }
 {
     encode_head(key.bytes(), &SeriesLabels { labels, show }, out)?;
@@ -50,7 +55,11 @@ pub fn encode_last_member(
 
 /// Writes the start of a member, up to its rows: the array header, the key and the requested labels. Grows the output
 /// buffer as needed.
-pub fn encode_head<S: ShowsLabels>(key: &[u8], labels: &S, out: &mut Out) -> Result<(), AllocError>
+pub fn encode_head<S: ReplyLabelList>(
+    key: &[u8],
+    labels: &S,
+    out: &mut Out,
+) -> Result<(), AllocError>
     ensures ok { OnOk result (out.new.bytes ≡ out.old.bytes ++ head_text key.now (S.shown labels.now)) }
     ensures room { length out.old.bytes + out.old.spare ≤ length out.new.bytes + out.new.spare }
 {
@@ -60,20 +69,20 @@ pub fn encode_head<S: ShowsLabels>(key: &[u8], labels: &S, out: &mut Out) -> Res
 }
 
 // Writes the array of the labels that the reply shows.
-fn encode_labels<S: ShowsLabels>(labels: &S, out: &mut Out) -> Result<(), AllocError>
+fn encode_labels<S: ReplyLabelList>(labels: &S, out: &mut Out) -> Result<(), AllocError>
     ensures ok { OnOk result (out.new.bytes ≡ out.old.bytes ++ text (spec.labels_reply (S.shown labels.now))) }
     ensures room { length out.old.bytes + out.old.spare ≤ length out.new.bytes + out.new.spare }
 {
     let count = labels.count();
     encode_count(count, out)?;
-    for place in 0..count {
-        encode_label(labels.label(place), out)?;
+    for list_index in 0..count {
+        encode_label(labels.label(list_index), out)?;
     }
     Ok(())
 }
 
 // Writes `[label, value]`, with nil for an absent value.
-fn encode_label(label: Shown<'_>, out: &mut Out) -> Result<(), AllocError>
+fn encode_label(label: ReplyLabel<'_>, out: &mut Out) -> Result<(), AllocError>
     ensures ok { OnOk result (out.new.bytes ≡ out.old.bytes ++ text (spec.shown_label_reply (label_of label.entry))) }
     ensures room { length out.old.bytes + out.old.spare ≤ length out.new.bytes + out.new.spare }
 {
@@ -95,14 +104,15 @@ fn encode_value(value: Option<&[u8]>, out: &mut Out) -> Result<(), AllocError>
 
 /// Writes the array of the rows. On `Err` the output is unchanged.
 pub fn encode_rows(rows: &[Row], out: &mut Out) -> Result<(), AllocError>
-    ensures ok { OnOk result (out.new.bytes ≡ out.old.bytes ++ text (spec.array (map spec.row_reply (map row_of rows.now)))) }
+    ensures ok { OnOk result (out.new.bytes
+        ≡ out.old.bytes ++ text (spec.array (map spec.row_reply (map row_of rows.now)))) }
     ensures err { OnErr result (out.new.bytes ≡ out.old.bytes) }
     ensures room { length out.old.bytes + out.old.spare ≤ length out.new.bytes + out.new.spare }
 {
     reserve_items(rows.len(), out)?;
     begin_array(rows.len(), out);
     for row in rows {
-        put_pair(row.time, row.value, out);
+        write_pair(row.time, row.value, out);
     }
     Ok(())
 }
@@ -115,7 +125,7 @@ pub(crate) fn encode_row(row: Option<Row>, out: &mut Out) -> Result<(), AllocErr
     let Some(row) = row else {
         return encode_count(0, out);
     };
-    out.reserve(PAIR)?;
-    put_pair(row.time, row.value, out);
+    out.reserve(PAIR_BYTES)?;
+    write_pair(row.time, row.value, out);
     Ok(())
 }

@@ -1,7 +1,7 @@
 // The labels that a reply shows.
 ghost use Rattle.std.specs.Prelude.{◌≡◌, ◌<◌, List, length, map, slice_get, Some};
 ghost use Rattle.std.specs.Option.{option_copied};
-ghost use Rattle.ts_spec.specs.Questions.{shown_label, picked_label};
+ghost use Rattle.ts_spec.specs.Queries.{shown_label, picked_label};
 ghost use Rattle.ts_spec.specs.Response.{ShownLabel};
 ghost use Rattle.ts_multi.specs.Members.{label_of};
 
@@ -10,13 +10,13 @@ use ts_resp::Word;
 
 /// A label of a reply. The value is `None` if the series lacks the label.
 #[derive(Clone, Copy)]
-pub struct Shown<'a> {
+pub struct ReplyLabel<'a> {
     pub name: &'a [u8],
     pub value: Option<&'a [u8]>,
 }
 
 /// A list of the labels that a reply shows.
-pub trait ShowsLabels {
+pub trait ReplyLabelList {
     // The labels, in order.
     ghost shown: { Self → List ShownLabel };
 
@@ -25,9 +25,9 @@ pub trait ShowsLabels {
         ensures { result ≡ length (shown self.now) };
 
     /// The label at this index, counted from 0.
-    fn label(&self, place: usize) -> Shown<'_>
-        requires { place < length (shown self.now) }
-        ensures { slice_get (shown self.now) place ≡ Some (label_of result) };
+    fn label(&self, list_index: usize) -> ReplyLabel<'_>
+        requires { list_index < length (shown self.now) }
+        ensures { slice_get (shown self.now) list_index ≡ Some (label_of result) };
 }
 
 /// The labels of a series, with the client's choice of which to show.
@@ -37,8 +37,8 @@ pub(crate) struct SeriesLabels<'a> {
     pub(crate) show: &'a Show,
 }
 
-impl ShowsLabels for SeriesLabels<'_> {
-    ghost use Rattle.ts_spec.specs.Questions.{labels_shown};
+impl ReplyLabelList for SeriesLabels<'_> {
+    ghost use Rattle.ts_spec.specs.Queries.{labels_shown};
     ghost use Rattle.ts_labels.specs.Show.{show_of};
 
     ghost shown = { λ s. labels_shown (show_of s.show.now) s.labels.now };
@@ -51,31 +51,31 @@ impl ShowsLabels for SeriesLabels<'_> {
         }
     }
 
-    fn label(&self, place: usize) -> Shown<'_> {
+    fn label(&self, list_index: usize) -> ReplyLabel<'_> {
         match self.show {
             Show::Nothing => unreachable!(),
-            Show::All => label_at(self.labels, place),
-            Show::Selected(names) => label_named(self.labels, &names[place]),
+            Show::All => label_at(self.labels, list_index),
+            Show::Selected(names) => label_named(self.labels, &names[list_index]),
         }
     }
 }
 
 // The label at this index.
-fn label_at(labels: &Labels, place: usize) -> Shown<'_>
-    requires { place < length labels.now }
-    ensures { slice_get (map shown_label labels.now) place ≡ Some (label_of result) }
+fn label_at(labels: &Labels, list_index: usize) -> ReplyLabel<'_>
+    requires { list_index < length labels.now }
+    ensures { slice_get (map shown_label labels.now) list_index ≡ Some (label_of result) }
 {
-    Shown {
-        name: labels.label_at(place).bytes(),
-        value: Some(labels.value_at(place).bytes()),
+    ReplyLabel {
+        name: labels.label_at(list_index).bytes(),
+        value: Some(labels.value_at(list_index).bytes()),
     }
 }
 
 // The label with this name, without a value if it is absent.
-fn label_named<'a>(labels: &'a Labels, name: &'a Word) -> Shown<'a>
+fn label_named<'a>(labels: &'a Labels, name: &'a Word) -> ReplyLabel<'a>
     ensures { label_of result ≡ picked_label labels.now name.now }
 {
-    Shown {
+    ReplyLabel {
         name: name.bytes(),
         value: bytes_of(labels.get(name)),
     }

@@ -2,21 +2,21 @@
 use Rattle.std.proofs.Common.{◌≡◌, ℕ, zero, suc, ◌+◌, ◌-◌, ◌<◌, ◌≤◌, List, [], ◌∷◌, ◌++◌, length, take, drop, refl, sym, ap, ◌∙◌, append_assoc, arith}
 use Rattle.std.proofs.lemmas.List.{take-append-drop, length-take-le}
 use Rattle.std.specs.Prelude.{slice_index}
-use Rattle.ts_mux.specs.Capture.{Then, Inside, Mode, Body, Move, move, at_end, after_move, after_bytes, read_on, capture_at}
+use Rattle.ts_mux.specs.Capture.{Then, Inside, Mode, Body, Transition, transition, at_end, after_transition, after_bytes, read_on, capture_at}
 
 pub read_on-nil : (place begin : ℕ) (mode : Mode) → read_on place begin mode [] ≡ at_end mode begin
 unfolding read_on
 read_on-nil place begin mode = refl
 
-pub read_on-byte : (place begin : ℕ) (mode : Mode) (byte : ℕ) (bytes : List ℕ) (m : Move) → move mode byte ≡ m
-    → read_on place begin mode (byte ∷ bytes) ≡ after_move m place begin (λ from next. read_on (place + 1) from next bytes)
+pub read_on-byte : (place begin : ℕ) (mode : Mode) (byte : ℕ) (bytes : List ℕ) (m : Transition) → transition mode byte ≡ m
+    → read_on place begin mode (byte ∷ bytes) ≡ after_transition m place begin (λ from next. read_on (place + 1) from next bytes)
 unfolding read_on
 read_on-byte place begin mode byte bytes m e =
-    ap (λ m. after_move m place begin (λ from next. read_on (place + 1) from next bytes)) e
+    ap (λ m. after_transition m place begin (λ from next. read_on (place + 1) from next bytes)) e
 
 -- the first of these bytes
-pub read_on-first : (place begin : ℕ) (mode : Mode) (bytes : List ℕ) (m : Move) → 0 < length bytes → move mode (slice_index bytes 0) ≡ m
-    → (more : List ℕ) → read_on place begin mode (bytes ++ more) ≡ after_move m place begin (λ from next. read_on (place + 1) from next (drop 1 bytes ++ more))
+pub read_on-first : (place begin : ℕ) (mode : Mode) (bytes : List ℕ) (m : Transition) → 0 < length bytes → transition mode (slice_index bytes 0) ≡ m
+    → (more : List ℕ) → read_on place begin mode (bytes ++ more) ≡ after_transition m place begin (λ from next. read_on (place + 1) from next (drop 1 bytes ++ more))
 read_on-first place begin mode [] m h e more = absurd (omega arith)
 read_on-first place begin mode (byte ∷ bytes) m h e more = read_on-byte place begin mode byte (bytes ++ more) m e
 

@@ -5,14 +5,14 @@ use Rattle.std.proofs.lemmas.Fmt.{decimal_by_steps}
 use Rattle.std.specs.Fmt.{decimal}
 use Rattle.ts_spec.specs.Wire.{FEED, SPACE, digit_of}
 use Rattle.ts_mux.specs.declared.frame.Frame.{Frame}
-use Rattle.ts_mux.specs.Capture.{Capture, Then, Ended, Mode, Link, Length, MOST_LINKS, MOST_BYTES, within, with_digit, with_byte, goes, after_bytes, after_link, after_length, move, after_move, read_on, capture_at, capture, frames_of, ending_of, header, framed, all_framed}
+use Rattle.ts_mux.specs.Capture.{Capture, Then, Ended, Mode, Link, Length, MOST_LINKS, MOST_BYTES, within, with_digit, with_byte, goes, after_bytes, after_link, after_length, transition, after_transition, read_on, capture_at, capture, frames_of, ending_of, header, framed, all_framed}
 use Rattle.ts_mux.specs.Framing.{IsFrame}
 use Rattle.ts_mux.proofs.CaptureLemmas.{read_on-nil, read_on-byte, body_is_read}
 
 -- the states in which the digits of a number are parsed
 record IsNumberMode (least most : ℕ) (mode : Option ℕ → Mode) : Type 0 where
   small : least ≤ 1
-  moves : (so_far : Option ℕ) (byte : ℕ) → 48 ≤ byte → move (mode so_far) byte ≡ goes mode (with_byte least most so_far byte)
+  moves : (so_far : Option ℕ) (byte : ℕ) → 48 ≤ byte → transition (mode so_far) byte ≡ goes mode (with_byte least most so_far byte)
 
 link_mode : IsNumberMode 1 MOST_LINKS Link
 link_mode = record {
@@ -76,7 +76,7 @@ Leads capture rest = (place : ℕ) × (capture ≡ rest place)
 
 -- the body of a frame after its header
 bytes_are_read : (link : ℕ) (bytes : List ℕ) (place begin : ℕ) (more : List ℕ)
-    → Leads (after_move (after_bytes link (length bytes) []) place begin (λ from next. read_on (place + 1) from next (bytes ++ more)))
+    → Leads (after_transition (after_bytes link (length bytes) []) place begin (λ from next. read_on (place + 1) from next (bytes ++ more)))
     (λ after. Then (record { link = link; bytes = bytes }) (capture_at after more))
 bytes_are_read link [] place begin more = (place + 1, refl)
 bytes_are_read link (byte ∷ bytes) place begin more = (place + 1 + suc (length bytes), body_is_read link byte bytes (place + 1) begin [] more)

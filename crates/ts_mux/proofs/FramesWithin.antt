@@ -5,7 +5,7 @@ use Rattle.std.proofs.lemmas.List.Elements.{All-cons, All-nil}
 use Rattle.std.specs.Prelude.{IfSome}
 use Rattle.ts_spec.specs.Wire.{FEED, SPACE, is_digit, digit_of}
 use Rattle.ts_mux.specs.declared.frame.Frame.{Frame}
-use Rattle.ts_mux.specs.Capture.{Capture, Mode, Link, Length, Body, Move, Goto, Whole, Wrong, MOST_LINKS, MOST_BYTES, within, with_digit, with_byte, goes, after_bytes, after_link, after_length, start, move, before_digit, at_end, after_move, read_on, capture, frames_of}
+use Rattle.ts_mux.specs.Capture.{Capture, Mode, Link, Length, Body, Transition, Goto, Whole, Wrong, MOST_LINKS, MOST_BYTES, within, with_digit, with_byte, goes, after_bytes, after_link, after_length, start, transition, before_digit, at_end, after_transition, read_on, capture, frames_of}
 use Rattle.ts_mux.proofs.CaptureLemmas.{read_on-nil, read_on-byte}
 use Rattle.ts_mux.specs.Framing.{IsLink, IsFrame, IsLinkSoFar, IsLengthSoFar}
 
@@ -43,7 +43,7 @@ IsMode (Link so_far) = IsLinkSoFar so_far
 IsMode (Length link so_far) = IsLink link × IsLengthSoFar so_far
 IsMode (Body link later bytes) = IsLink link × (1 ≤ later) × (later + length bytes ≤ MOST_BYTES)
 
-abbrev IsMove : Move → Type 0
+abbrev IsMove : Transition → Type 0
 IsMove (Goto mode) = IsMode mode
 IsMove (Whole frame) = IsFrame frame
 IsMove Wrong = Unit {0}
@@ -68,18 +68,18 @@ after_length-within : (link : ℕ) (so_far : Option ℕ) → IsLink link → IsL
 after_length-within link None is h = tt
 after_length-within link (Some size) is h = after_bytes-within link size [] is (omega (arith, h))
 
-move-within : (mode : Mode) (byte : ℕ) → IsMode mode → IsMove (move mode byte)
-move-within (Link so_far) byte is = go (byte == SPACE)
+transition-within : (mode : Mode) (byte : ℕ) → IsMode mode → IsMove (transition mode byte)
+transition-within (Link so_far) byte is = go (byte == SPACE)
   where
     go : (test : Bool) → IsMove (if test then after_link so_far else goes Link (with_byte 1 MOST_LINKS so_far byte))
     go true = after_link-within so_far is
     go false = goes-link (with_byte 1 MOST_LINKS so_far byte) (with_byte-between 1 MOST_LINKS so_far byte)
-move-within (Length link so_far) byte is = go (byte == FEED)
+transition-within (Length link so_far) byte is = go (byte == FEED)
   where
     go : (test : Bool) → IsMove (if test then after_length link so_far else goes (Length link) (with_byte 0 MOST_BYTES so_far byte))
     go true = after_length-within link so_far is.0 is.1
     go false = goes-length link is.0 (with_byte 0 MOST_BYTES so_far byte) (with_byte-between 0 MOST_BYTES so_far byte)
-move-within (Body link later bytes) byte is =
+transition-within (Body link later bytes) byte is =
     let some = is.1 in
     let fits = is.2 in
     after_bytes-within link (later - 1) (bytes ++ byte ∷ []) is.0 (omega (arith, some, fits, length-append bytes (byte ∷ [])))
@@ -90,17 +90,17 @@ at_end-within (Link (Some number)) begin = All-nil IsFrame
 at_end-within (Length link so_far) begin = All-nil IsFrame
 at_end-within (Body link later bytes) begin = All-nil IsFrame
 
-after_move-within : (m : Move) (place begin : ℕ) (on : ℕ → Mode → Capture) → IsMove m → ((from : ℕ) (mode : Mode) → IsMode mode → All IsFrame (frames_of (on from mode)))
-    → All IsFrame (frames_of (after_move m place begin on))
-after_move-within (Goto mode) place begin on is others = others begin mode is
-after_move-within (Whole frame) place begin on is others = All-cons IsFrame frame (frames_of (on (place + 1) start)) is (others (place + 1) start tt)
-after_move-within Wrong place begin on is others = All-nil IsFrame
+after_transition-within : (m : Transition) (place begin : ℕ) (on : ℕ → Mode → Capture) → IsMove m → ((from : ℕ) (mode : Mode) → IsMode mode → All IsFrame (frames_of (on from mode)))
+    → All IsFrame (frames_of (after_transition m place begin on))
+after_transition-within (Goto mode) place begin on is others = others begin mode is
+after_transition-within (Whole frame) place begin on is others = All-cons IsFrame frame (frames_of (on (place + 1) start)) is (others (place + 1) start tt)
+after_transition-within Wrong place begin on is others = All-nil IsFrame
 
 read_on-within : (place begin : ℕ) (mode : Mode) (bytes : List ℕ) → IsMode mode → All IsFrame (frames_of (read_on place begin mode bytes))
 read_on-within place begin mode [] is = subst (λ capture. All IsFrame (frames_of capture)) (sym (read_on-nil place begin mode)) (at_end-within mode begin)
 read_on-within place begin mode (byte ∷ bytes) is =
-    subst (λ capture. All IsFrame (frames_of capture)) (sym (read_on-byte place begin mode byte bytes (move mode byte) refl))
-    (after_move-within (move mode byte) place begin (λ from next. read_on (place + 1) from next bytes) (move-within mode byte is) (λ from next h. read_on-within (place + 1) from next bytes h))
+    subst (λ capture. All IsFrame (frames_of capture)) (sym (read_on-byte place begin mode byte bytes (transition mode byte) refl))
+    (after_transition-within (transition mode byte) place begin (λ from next. read_on (place + 1) from next bytes) (transition-within mode byte is) (λ from next h. read_on-within (place + 1) from next bytes h))
 
 pub frames-within : (bytes : List ℕ) → All IsFrame (frames_of (capture bytes))
 frames-within bytes = read_on-within 0 0 start bytes tt

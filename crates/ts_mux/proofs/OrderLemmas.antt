@@ -3,24 +3,24 @@ use Rattle.std.proofs.Common.{◌≡◌, ℕ, Bool, true, false, not, ◌==◌, 
 use Rattle.std.proofs.lemmas.Bool.{eqb-true, eqb-false, eq-eqb}
 use Rattle.ts_spec.specs.Wire.{Request}
 use Rattle.ts_mux.specs.declared.frame.Frame.{Frame}
-use Rattle.ts_mux.specs.Order.{Event, Item, events_of, Connection, news_of, later, until_end, has_end, after_bytes, items_of, with_link, items_from, without, frames_without}
+use Rattle.ts_mux.specs.Order.{Event, Item, events_of, Connection, new_events_of, later, up_to_close, has_close, after_bytes, items_of, with_link, items_from, without, frames_without}
 
 -- two connections that yield the same
 abbrev pub Alike : Connection → Connection → Type 0
-Alike one other = (before bytes : List ℕ) → news_of one before bytes ≡ news_of other before bytes
+Alike one other = (before bytes : List ℕ) → new_events_of one before bytes ≡ new_events_of other before bytes
 
 abbrev pub AreAlike : (ℕ → Connection) → (ℕ → Connection) → Type 0
 AreAlike ones others = (link : ℕ) → Alike (ones link) (others link)
 
 -- the events after some bytes
-pub news-later : (connection : Connection) (first before bytes : List ℕ) → news_of (later connection first) before bytes ≡ news_of connection (first ++ before) bytes
-news-later None first before bytes = refl
-news-later (Some stream) first before bytes =
+pub new_events-later : (connection : Connection) (first before bytes : List ℕ) → new_events_of (later connection first) before bytes ≡ new_events_of connection (first ++ before) bytes
+new_events-later None first before bytes = refl
+new_events-later (Some stream) first before bytes =
     ap (λ all. drop (length (events_of (stream (first ++ before)))) (events_of (stream all))) (sym (append_assoc first before bytes))
 
 alike-later : (one other : Connection) (bytes : List ℕ) → Alike one other → Alike (later one bytes) (later other bytes)
 alike-later one other bytes h = λ before more.
-    news-later one bytes before more ∙ h (bytes ++ before) more ∙ sym (news-later other bytes before more)
+    new_events-later one bytes before more ∙ h (bytes ++ before) more ∙ sym (new_events-later other bytes before more)
 
 alike-if : (test : Bool) (one other : Connection) → Alike one other → Alike (if test then None else one) (if test then None else other)
 alike-if true one other h = λ before bytes. refl
@@ -29,9 +29,9 @@ alike-if false one other h = h
 pub alike-after : (closes : Request → Bool) (one other : Connection) (bytes : List ℕ) → Alike one other → Alike (after_bytes closes one bytes) (after_bytes closes other bytes)
 alike-after closes one other [] h = λ before bytes. refl
 alike-after closes one other (byte ∷ bytes) h =
-    subst (λ events. Alike (if has_end closes (news_of one [] (byte ∷ bytes)) then None else later one (byte ∷ bytes)) (if has_end closes events then None else later other (byte ∷ bytes)))
+    subst (λ events. Alike (if has_close closes (new_events_of one [] (byte ∷ bytes)) then None else later one (byte ∷ bytes)) (if has_close closes events then None else later other (byte ∷ bytes)))
     (h [] (byte ∷ bytes))
-    (alike-if (has_end closes (news_of one [] (byte ∷ bytes))) (later one (byte ∷ bytes)) (later other (byte ∷ bytes)) (alike-later one other (byte ∷ bytes) h))
+    (alike-if (has_close closes (new_events_of one [] (byte ∷ bytes))) (later one (byte ∷ bytes)) (later other (byte ∷ bytes)) (alike-later one other (byte ∷ bytes) h))
 
 pub alike-with : (ones others : ℕ → Connection) (link : ℕ) (one other : Connection) → AreAlike ones others → Alike one other → AreAlike (with_link ones link one) (with_link others link other)
 alike-with ones others link one other all h = λ at. go at (at == link)
@@ -46,8 +46,8 @@ items-alike closes ones others [] h = refl
 items-alike closes ones others (frame ∷ frames) h =
     let one = after_bytes closes (ones frame.link) frame.bytes in
     let other = after_bytes closes (others frame.link) frame.bytes in
-    ap (λ events. items_of frame.link (until_end closes events) ++ items_from closes (with_link ones frame.link one) frames) (h frame.link [] frame.bytes)
-    ∙ ap (λ items. items_of frame.link (until_end closes (news_of (others frame.link) [] frame.bytes)) ++ items)
+    ap (λ events. items_of frame.link (up_to_close closes events) ++ items_from closes (with_link ones frame.link one) frames) (h frame.link [] frame.bytes)
+    ∙ ap (λ items. items_of frame.link (up_to_close closes (new_events_of (others frame.link) [] frame.bytes)) ++ items)
     (items-alike closes (with_link ones frame.link one) (with_link others frame.link other) frames
     (alike-with ones others frame.link one other h (alike-after closes (ones frame.link) (others frame.link) frame.bytes (h frame.link))))
 
@@ -108,27 +108,27 @@ items-without closes link ones others (frame ∷ frames) h =
         → without link (items_from closes ones (frame ∷ frames)) ≡ items_from closes others (if not test then frame ∷ frames_without link frames else frames_without link frames)
     go true e later_ones =
         let one = after_bytes closes (ones frame.link) frame.bytes in
-        let events = until_end closes (news_of (ones frame.link) [] frame.bytes) in
+        let events = up_to_close closes (new_events_of (ones frame.link) [] frame.bytes) in
         without-append link (items_of frame.link events) (items_from closes (with_link ones frame.link one) frames)
         ∙ ap (λ items. items ++ without link (items_from closes (with_link ones frame.link one) frames)) (without-own link frame.link events e)
         ∙ later_ones (with_link ones frame.link one) others (alike-but-with link frame.link ones others one e h)
     go false e later_ones =
         let one = after_bytes closes (ones frame.link) frame.bytes in
         let other = after_bytes closes (others frame.link) frame.bytes in
-        let events = until_end closes (news_of (ones frame.link) [] frame.bytes) in
+        let events = up_to_close closes (new_events_of (ones frame.link) [] frame.bytes) in
         let same = h frame.link e in
         without-append link (items_of frame.link events) (items_from closes (with_link ones frame.link one) frames)
         ∙ ap (λ items. items ++ without link (items_from closes (with_link ones frame.link one) frames)) (without-other link frame.link events e)
         ∙ ap (λ items. items_of frame.link events ++ items)
         (later_ones (with_link ones frame.link one) (with_link others frame.link other)
         (alike-but-both link frame.link ones others one other h (alike-after closes (ones frame.link) (others frame.link) frame.bytes same)))
-        ∙ ap (λ news. items_of frame.link (until_end closes news) ++ items_from closes (with_link others frame.link other) (frames_without link frames)) (same [] frame.bytes)
+        ∙ ap (λ new_events. items_of frame.link (up_to_close closes new_events) ++ items_from closes (with_link others frame.link other) (frames_without link frames)) (same [] frame.bytes)
 
 -- ---- a closed connection
 
 -- it yields nothing more
 abbrev pub IsDone : Connection → Type 0
-IsDone connection = (before bytes : List ℕ) → news_of connection before bytes ≡ []
+IsDone connection = (before bytes : List ℕ) → new_events_of connection before bytes ≡ []
 
 done-after : (closes : Request → Bool) (connection : Connection) (bytes : List ℕ) → IsDone connection → IsDone (after_bytes closes connection bytes)
 done-after closes connection [] h = λ before bytes. refl
@@ -166,7 +166,7 @@ without-done closes link ones others (frame ∷ frames) h done =
     other = after_bytes closes (others frame.link) frame.bytes
 
     events : List Event
-    events = until_end closes (news_of (ones frame.link) [] frame.bytes)
+    events = up_to_close closes (new_events_of (ones frame.link) [] frame.bytes)
 
     split : without link (items_from closes ones (frame ∷ frames)) ≡ without link (items_of frame.link events) ++ without link (items_from closes (with_link ones frame.link one) frames)
     split = without-append link (items_of frame.link events) (items_from closes (with_link ones frame.link one) frames)
@@ -182,7 +182,7 @@ without-done closes link ones others (frame ∷ frames) h done =
         split
         ∙ ap (λ items. items ++ without link (items_from closes (with_link ones frame.link one) frames)) (without-own link frame.link events e)
         ∙ later_ones (with_link ones frame.link one) (with_link others frame.link other) (alike-but-here link frame.link ones others one other e h) after
-        ∙ ap (λ news. items_of frame.link (until_end closes news) ++ items_from closes (with_link others frame.link other) frames) (sym (none [] frame.bytes))
+        ∙ ap (λ new_events. items_of frame.link (up_to_close closes new_events) ++ items_from closes (with_link others frame.link other) frames) (sym (none [] frame.bytes))
     go false e later_ones =
         let same = h frame.link e in
         split
@@ -191,4 +191,4 @@ without-done closes link ones others (frame ∷ frames) h done =
         (later_ones (with_link ones frame.link one) (with_link others frame.link other)
         (alike-but-both link frame.link ones others one other h (alike-after closes (ones frame.link) (others frame.link) frame.bytes same))
         (done-there link frame.link others other e done))
-        ∙ ap (λ news. items_of frame.link (until_end closes news) ++ items_from closes (with_link others frame.link other) frames) (same [] frame.bytes)
+        ∙ ap (λ new_events. items_of frame.link (up_to_close closes new_events) ++ items_from closes (with_link others frame.link other) frames) (same [] frame.bytes)

@@ -9,9 +9,9 @@ use Rattle.ts_spec.specs.Wire.{Start, stream_at}
 use Rattle.ts_spec.proofs.Streams.{read_on-nil}
 use Rattle.ts_resp.specs.Reading.{Reading, stream_of, fed}
 use Rattle.ts_mux.specs.declared.frame.Frame.{Frame}
-use Rattle.ts_mux.specs.declared.hand.Hand.{Hand}
-use Rattle.ts_mux.specs.Order.{Event, Item, events_of, news, news_of, items_of, items_from, closes_none}
-use Rattle.ts_mux.specs.Links.{stream_or, reader_or, connections, left_of, ahead_of, events_in, fed_in, AreAsked, AreWithin}
+use Rattle.ts_mux.specs.declared.current_connection.CurrentConnection.{CurrentConnection}
+use Rattle.ts_mux.specs.Order.{Event, Item, events_of, new_events, new_events_of, items_of, items_from, never_closes}
+use Rattle.ts_mux.specs.Links.{stream_or, reader_or, connections, pending_of_current, pending_items_of, pending_events, fed_in, AreDrained, AreFedAtMost}
 use Rattle.ts_mux.proofs.Apart.{apart-sym, other_key}
 use Rattle.ts_mux.proofs.OrderLemmas.{Alike, items-alike}
 
@@ -24,9 +24,9 @@ no_events link [] e = refl
 no_events link (event ∷ events) e = absurd (subst IsCons e tt)
 
 -- if no item is pending, the current reader has no event left
-pub nothing_left : (hand : Option Hand) (held : Hand) → hand ≡ Some held → left_of hand ++ [] ≡ [] → events_of (stream_of held.reader []) ≡ []
-nothing_left hand held e none =
-    no_events held.link (events_of (stream_of held.reader [])) (ap left_of (sym e) ∙ sym (append-nil (left_of hand)) ∙ none)
+pub nothing_left : (current_connection : Option CurrentConnection) (held : CurrentConnection) → current_connection ≡ Some held → pending_of_current current_connection ++ [] ≡ [] → events_of (stream_of held.reader []) ≡ []
+nothing_left current_connection held e none =
+    no_events held.link (events_of (stream_of held.reader [])) (ap pending_of_current (sym e) ∙ sym (append-nil (pending_of_current current_connection)) ∙ none)
 
 -- inserting at an existing key
 pub written : (readers rest : BTreeMap ℕ Reading) (link : ℕ) (before now : Reading) → get nat_cmp readers link ≡ Some before
@@ -35,15 +35,15 @@ written readers rest link before now there through = through.3 (subst (λ (o : O
 
 -- ---- storing a reader
 
-module _ (readers rest : BTreeMap ℕ Reading) (held : Hand) (updates : Updates nat_cmp readers rest held.link (Some held.reader)) where
-  pub put_asked : events_of (stream_of held.reader []) ≡ [] → AreAsked readers → AreAsked rest
+module _ (readers rest : BTreeMap ℕ Reading) (held : CurrentConnection) (updates : Updates nat_cmp readers rest held.link (Some held.reader)) where
+  pub put_asked : events_of (stream_of held.reader []) ≡ [] → AreDrained readers → AreDrained rest
   put_asked none all = λ at. go at (at == held.link) refl
     where
-      go : (at : ℕ) (test : Bool) → (at == held.link) ≡ test → events_in (get nat_cmp rest at) ≡ []
-      go at true same = ap (λ to. events_in (get nat_cmp rest to)) (eqb-true at held.link same) ∙ ap events_in updates.1 ∙ none
-      go at false apart = ap events_in (updates.2 at (other_key held.link at apart)) ∙ all at
+      go : (at : ℕ) (test : Bool) → (at == held.link) ≡ test → pending_events (get nat_cmp rest at) ≡ []
+      go at true same = ap (λ to. pending_events (get nat_cmp rest to)) (eqb-true at held.link same) ∙ ap pending_events updates.1 ∙ none
+      go at false apart = ap pending_events (updates.2 at (other_key held.link at apart)) ∙ all at
 
-  pub put_within : (most : ℕ) → fed held.reader ≤ most → AreWithin most readers → AreWithin most rest
+  pub put_within : (most : ℕ) → fed held.reader ≤ most → AreFedAtMost most readers → AreFedAtMost most rest
   put_within most within all = λ at. go at (at == held.link) refl
     where
       go : (at : ℕ) (test : Bool) → (at == held.link) ≡ test → fed_in (get nat_cmp rest at) ≤ most
@@ -51,11 +51,11 @@ module _ (readers rest : BTreeMap ℕ Reading) (held : Hand) (updates : Updates 
       go at false apart = subst (λ reader. fed_in reader ≤ most) (sym (updates.2 at (other_key held.link at apart))) (all at)
 
   pub ahead_put : (limits : WireLimits) (closed : List Bool) → events_of (stream_of held.reader []) ≡ [] → (frames : List Frame)
-      → ahead_of limits closed rest None frames ≡ ahead_of limits closed readers (Some held) frames
+      → pending_items_of limits closed rest None frames ≡ pending_items_of limits closed readers (Some held) frames
   ahead_put limits closed none frames =
-      items-alike closes_none (connections limits closed rest None) (connections limits closed readers (Some held)) frames
-      (λ at before bytes. ap (λ reader. news_of (if get_or closed at true then None else Some (stream_or limits reader)) before bytes) (go at (held.link == at) refl))
-      ∙ ap (λ events. items_of held.link events ++ items_from closes_none (connections limits closed readers (Some held)) frames) (sym none)
+      items-alike never_closes (connections limits closed rest None) (connections limits closed readers (Some held)) frames
+      (λ at before bytes. ap (λ reader. new_events_of (if get_or closed at true then None else Some (stream_or limits reader)) before bytes) (go at (held.link == at) refl))
+      ∙ ap (λ events. items_of held.link events ++ items_from never_closes (connections limits closed readers (Some held)) frames) (sym none)
     where
       go : (at : ℕ) (test : Bool) → (held.link == at) ≡ test → get nat_cmp rest at ≡ reader_or (if test then Some held.reader else None) (get nat_cmp readers at)
       go at true same = ap (λ to. get nat_cmp rest to) (sym (eqb-true held.link at same)) ∙ updates.1
@@ -68,26 +68,26 @@ fresh_events limits reader fresh = ap events_of (fresh [] ∙ read_on-nil limits
 
 module _ (readers : BTreeMap ℕ Reading) (link : ℕ) (limits : WireLimits) (closed : List Bool) where
   pub ahead_taken : (rest : BTreeMap ℕ Reading) (reader fresh : Reading) → Updates nat_cmp readers rest link (Some fresh)
-      → get nat_cmp readers link ≡ Some reader → AreAsked readers → (frames : List Frame)
-      → ahead_of limits closed rest (Some (record { link = link; reader = reader })) frames ≡ ahead_of limits closed readers None frames
+      → get nat_cmp readers link ≡ Some reader → AreDrained readers → (frames : List Frame)
+      → pending_items_of limits closed rest (Some (record { link = link; reader = reader })) frames ≡ pending_items_of limits closed readers None frames
   ahead_taken rest reader fresh updates there all frames =
-      ap (λ events. items_of link events ++ items_from closes_none (connections limits closed rest (Some (record { link = link; reader = reader }))) frames) (ap events_in (sym there) ∙ all link)
-      ∙ items-alike closes_none (connections limits closed rest (Some (record { link = link; reader = reader }))) (connections limits closed readers None) frames
-      (λ at before bytes. ap (λ reader. news_of (if get_or closed at true then None else Some (stream_or limits reader)) before bytes) (go at (link == at) refl))
+      ap (λ events. items_of link events ++ items_from never_closes (connections limits closed rest (Some (record { link = link; reader = reader }))) frames) (ap pending_events (sym there) ∙ all link)
+      ∙ items-alike never_closes (connections limits closed rest (Some (record { link = link; reader = reader }))) (connections limits closed readers None) frames
+      (λ at before bytes. ap (λ reader. new_events_of (if get_or closed at true then None else Some (stream_or limits reader)) before bytes) (go at (link == at) refl))
     where
       go : (at : ℕ) (test : Bool) → (link == at) ≡ test → reader_or (if test then Some reader else None) (get nat_cmp rest at) ≡ get nat_cmp readers at
       go at true same = sym there ∙ ap (λ to. get nat_cmp readers to) (eqb-true link at same)
       go at false apart = updates.2 at (other_key link at (apart-sym link at apart))
 
   pub ahead_made : (reader : Reading) → get nat_cmp readers link ≡ None → ((more : List ℕ) → stream_of reader more ≡ stream_at limits 0 more) → (frames : List Frame)
-      → ahead_of limits closed readers (Some (record { link = link; reader = reader })) frames ≡ ahead_of limits closed readers None frames
+      → pending_items_of limits closed readers (Some (record { link = link; reader = reader })) frames ≡ pending_items_of limits closed readers None frames
   ahead_made reader there fresh frames =
-      ap (λ events. items_of link events ++ items_from closes_none (connections limits closed readers (Some (record { link = link; reader = reader }))) frames)
+      ap (λ events. items_of link events ++ items_from never_closes (connections limits closed readers (Some (record { link = link; reader = reader }))) frames)
       (fresh_events limits reader fresh)
-      ∙ items-alike closes_none (connections limits closed readers (Some (record { link = link; reader = reader }))) (connections limits closed readers None) frames
+      ∙ items-alike never_closes (connections limits closed readers (Some (record { link = link; reader = reader }))) (connections limits closed readers None) frames
       (λ at. go at (get_or closed at true) (link == at) refl)
     where
-      same : (before bytes : List ℕ) → news (stream_of reader) before bytes ≡ news (stream_at limits 0) before bytes
+      same : (before bytes : List ℕ) → new_events (stream_of reader) before bytes ≡ new_events (stream_at limits 0) before bytes
       same before bytes =
           ap (λ stream. drop (length (events_of stream)) (events_of (stream_of reader (before ++ bytes)))) (fresh before)
           ∙ ap (λ stream. drop (length (events_of (stream_at limits 0 before))) (events_of stream)) (fresh (before ++ bytes))
@@ -96,5 +96,5 @@ module _ (readers : BTreeMap ℕ Reading) (link : ℕ) (limits : WireLimits) (cl
           → Alike (if gone then None else Some (stream_or limits (reader_or (if test then Some reader else None) (get nat_cmp readers at))))
           (if gone then None else Some (stream_or limits (get nat_cmp readers at)))
       go at true test e = λ before bytes. refl
-      go at false true e = λ before bytes. same before bytes ∙ ap (λ reader. news (stream_or limits reader) before bytes) (sym there ∙ ap (λ to. get nat_cmp readers to) (eqb-true link at e))
+      go at false true e = λ before bytes. same before bytes ∙ ap (λ reader. new_events (stream_or limits reader) before bytes) (sym there ∙ ap (λ to. get nat_cmp readers to) (eqb-true link at e))
       go at false false e = λ before bytes. refl

@@ -32,11 +32,11 @@ pub data Mode : Type 0 where
   Body : ℕ → ℕ → List ℕ → Mode
 
 -- the effect of one byte
-pub data Move : Type 0 where
-  Goto : Mode → Move
+pub data Transition : Type 0 where
+  Goto : Mode → Transition
   -- the frame is complete
-  Whole : Frame → Move
-  Wrong : Move
+  Whole : Frame → Transition
+  Wrong : Transition
 
 -- the number if it is between `least` and `most`
 abbrev pub within : (least most : ℕ) → ℕ → Option ℕ
@@ -52,30 +52,30 @@ abbrev pub with_byte : (least most : ℕ) → Option ℕ → ℕ → Option ℕ
 with_byte least most so_far byte = if is_digit byte then with_digit least most so_far (digit_of byte) else None
 
 -- continues with the number, or fails if there is none
-abbrev pub goes : (Option ℕ → Mode) → Option ℕ → Move
+abbrev pub goes : (Option ℕ → Mode) → Option ℕ → Transition
 goes mode None = Wrong
 goes mode (Some number) = Goto (mode (Some number))
 
 -- a frame after these bytes, with `later` bytes still missing
-abbrev pub after_bytes : (link later : ℕ) → List ℕ → Move
+abbrev pub after_bytes : (link later : ℕ) → List ℕ → Transition
 after_bytes link zero bytes = Whole (record { link = link; bytes = bytes })
 after_bytes link (suc later) bytes = Goto (Body link (suc later) bytes)
 
 -- the state after the space, if there is a connection number
-abbrev pub after_link : Option ℕ → Move
+abbrev pub after_link : Option ℕ → Transition
 after_link None = Wrong
 after_link (Some link) = Goto (Length link None)
 
 -- the state after the line feed, if there is a length
-abbrev pub after_length : ℕ → Option ℕ → Move
+abbrev pub after_length : ℕ → Option ℕ → Transition
 after_length link None = Wrong
 after_length link (Some length) = after_bytes link length []
 
 -- the transition on the next byte
-abbrev pub move : Mode → ℕ → Move
-move (Link so_far) byte = if byte == SPACE then after_link so_far else goes Link (with_byte 1 MOST_LINKS so_far byte)
-move (Length link so_far) byte = if byte == FEED then after_length link so_far else goes (Length link) (with_byte 0 MOST_BYTES so_far byte)
-move (Body link later bytes) byte = after_bytes link (later - 1) (bytes ++ byte ∷ [])
+abbrev pub transition : Mode → ℕ → Transition
+transition (Link so_far) byte = if byte == SPACE then after_link so_far else goes Link (with_byte 1 MOST_LINKS so_far byte)
+transition (Length link so_far) byte = if byte == FEED then after_length link so_far else goes (Length link) (with_byte 0 MOST_BYTES so_far byte)
+transition (Body link later bytes) byte = after_bytes link (later - 1) (bytes ++ byte ∷ [])
 
 -- the state before the first byte of a frame
 abbrev pub start : Mode
@@ -95,16 +95,16 @@ at_end (Body link later bytes) begin = Inside begin
 
 -- The capture after a transition at offset `place`. `on` parses the bytes after it, given where their frame begins and
 -- its state.
-abbrev pub after_move : Move → (place begin : ℕ) → (ℕ → Mode → Capture) → Capture
-after_move (Goto next) place begin on = on begin next
-after_move (Whole frame) place begin on = Then frame (on (place + 1) start)
-after_move Wrong place begin on = Broken place
+abbrev pub after_transition : Transition → (place begin : ℕ) → (ℕ → Mode → Capture) → Capture
+after_transition (Goto next) place begin on = on begin next
+after_transition (Whole frame) place begin on = Then frame (on (place + 1) start)
+after_transition Wrong place begin on = Broken place
 
 -- Parses bytes from this state on. The first one is at offset `place`, and the current frame begins at `begin`.
 unfoldable pub read_on : (place begin : ℕ) → Mode → List ℕ → Capture
 read_on place begin mode [] = at_end mode begin
 read_on place begin mode (byte ∷ bytes) =
-    after_move (move mode byte) place begin (λ from next. read_on (place + 1) from next bytes)
+    after_transition (transition mode byte) place begin (λ from next. read_on (place + 1) from next bytes)
 
 -- parses a capture whose first byte is at this offset
 abbrev pub capture_at : ℕ → List ℕ → Capture

@@ -1,9 +1,9 @@
 -- The model of `Frames`, and the capture that it represents.
 use Rattle.std.specs.Prelude.{ℕ, ◌+◌, ◌<◌, ◌≤◌, List, [], ◌∷◌, ◌++◌, length, Option, Some, None, IsSome}
 use Rattle.ts_mux.specs.declared.frame.Frame.{Frame}
-use Rattle.ts_mux.specs.declared.part.Part.{Part}
-use Rattle.ts_mux.specs.declared.part.Part.TheVariants as part
-use Rattle.ts_mux.specs.Capture.{Capture, Ended, Inside, Mode, Link, Length, Body, Move, Goto, Wrong, after_bytes, MOST_LINKS, MOST_BYTES, read_on}
+use Rattle.ts_mux.specs.declared.frame_progress.FrameProgress.{FrameProgress}
+use Rattle.ts_mux.specs.declared.frame_progress.FrameProgress.TheVariants as frame_progress
+use Rattle.ts_mux.specs.Capture.{Capture, Ended, Inside, Mode, Link, Length, Body, Transition, Goto, Wrong, after_bytes, MOST_LINKS, MOST_BYTES, read_on}
 
 -- the offsets of the current frame and of the first unread byte, the parser's state, and the unread bytes
 pub record Framing : Type 0 where
@@ -13,10 +13,10 @@ pub record Framing : Type 0 where
   pub unread : List ℕ
 
 -- the parser's state with no byte of the frame's body read
-abbrev pub mode_of : Part → Mode
-mode_of (part.Link number) = Link number
-mode_of (part.Length link number) = Length link number
-mode_of (part.Body link len) = Body link len []
+abbrev pub mode_of : FrameProgress → Mode
+mode_of (frame_progress.Link number) = Link number
+mode_of (frame_progress.Length link number) = Length link number
+mode_of (frame_progress.Body link len) = Body link len []
 
 -- a valid connection number
 pub record IsLink (link : ℕ) : Type 0 where
@@ -39,33 +39,33 @@ IsLengthSoFar None = Unit {0}
 IsLengthSoFar (Some length) = length ≤ MOST_BYTES
 
 -- the numbers read so far are valid
-abbrev pub IsPart : Part → Type 0
-IsPart (part.Link number) = IsLinkSoFar number
-IsPart (part.Length link number) = IsLink link × IsLengthSoFar number
-IsPart (part.Body link len) = IsLink link × (len ≤ MOST_BYTES)
+abbrev pub IsValidProgress : FrameProgress → Type 0
+IsValidProgress (frame_progress.Link number) = IsLinkSoFar number
+IsValidProgress (frame_progress.Length link number) = IsLink link × IsLengthSoFar number
+IsValidProgress (frame_progress.Body link len) = IsLink link × (len ≤ MOST_BYTES)
 
 -- the frame needs more bytes
-abbrev pub IsOpen : Part → Type 0
-IsOpen (part.Link number) = Unit {0}
-IsOpen (part.Length link number) = Unit {0}
-IsOpen (part.Body link len) = 0 < len
+abbrev pub NeedsBytes : FrameProgress → Type 0
+NeedsBytes (frame_progress.Link number) = Unit {0}
+NeedsBytes (frame_progress.Length link number) = Unit {0}
+NeedsBytes (frame_progress.Body link len) = 0 < len
 
 -- at least one byte of the frame was read
-abbrev pub IsBegun : Part → Type 0
-IsBegun (part.Link number) = IsSome number
-IsBegun (part.Length link number) = Unit {0}
-IsBegun (part.Body link len) = Unit {0}
+abbrev pub HasFirstByte : FrameProgress → Type 0
+HasFirstByte (frame_progress.Link number) = IsSome number
+HasFirstByte (frame_progress.Length link number) = Unit {0}
+HasFirstByte (frame_progress.Body link len) = Unit {0}
 
 -- the transition to this progress
-abbrev pub goto_of : Part → Move
-goto_of (part.Link number) = Goto (Link number)
-goto_of (part.Length link number) = Goto (Length link number)
-goto_of (part.Body link len) = after_bytes link len []
+abbrev pub goto_progress : FrameProgress → Transition
+goto_progress (frame_progress.Link number) = Goto (Link number)
+goto_progress (frame_progress.Length link number) = Goto (Length link number)
+goto_progress (frame_progress.Body link len) = after_bytes link len []
 
 -- the transition to this progress, or the error
-abbrev pub move_of : Option Part → Move
-move_of None = Wrong
-move_of (Some part) = goto_of part
+abbrev pub transition_of : Option FrameProgress → Transition
+transition_of None = Wrong
+transition_of (Some frame_progress) = goto_progress frame_progress
 
 -- the rest of the capture, if these bytes follow the ones fed
 abbrev pub capture_of : Framing → List ℕ → Capture

@@ -3,11 +3,11 @@ use Rattle.std.specs.Prelude.{ℕ, List}
 use Rattle.ts_mux.specs.declared.frame.Frame.{Frame}
 use Rattle.ts_mux.specs.declared.mux.Mux.{Mux}
 use Rattle.ts_mux.specs.Order.{Item}
-use Rattle.ts_mux.specs.Links.{ahead_of}
+use Rattle.ts_mux.specs.Links.{pending_items_of}
 
 -- the items still to come if these frames are delivered next; a QUIT closes nothing here
-abbrev pub ahead : Mux → List Frame → List Item
-ahead m frames = ahead_of m.limits m.closed m.readers m.hand frames
+abbrev pub pending_items : Mux → List Frame → List Item
+pending_items m frames = pending_items_of m.limits m.closed m.readers m.current_connection frames
 
 -- how many bytes were delivered
 abbrev pub delivered_to : Mux → ℕ

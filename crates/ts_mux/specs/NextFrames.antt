@@ -47,7 +47,7 @@ abbrev pub HasWhole : Framing → Type 0
 HasWhole r = (frame : Frame) × (rest : List ℕ → Capture) × ((more : List ℕ) → capture_of r more ≡ capture.Then frame (rest more))
 
 -- one byte of a header was read, and the capture is the same
-pub record GoesOn (old new : Framing) : Type 0 where
+pub record ReadsHeaderByte (old new : Framing) : Type 0 where
   pub same : (more : List ℕ) → capture_of new more ≡ capture_of old more
   pub shorter : length new.unread < length old.unread
   pub fed_same : fed new ≡ fed old
@@ -55,7 +55,7 @@ pub record GoesOn (old new : Framing) : Type 0 where
   pub place : unfinished new ≡ unfinished old
 
 -- the result describes how the capture continues
-pub record Delivers (old new : Framing) (next : NextFrame) : Type 0 where
+pub record IsNextFrame (old new : Framing) (next : NextFrame) : Type 0 where
   pub whole : IfWhole next (λ frame. (more : List ℕ) → capture_of old more ≡ capture.Then frame (capture_of new more))
   pub link : IfWhole next (λ frame. IsLink frame.link)
   pub taken : IfWhole next (λ frame. old.begin + length frame.bytes ≤ new.begin)

@@ -29,13 +29,13 @@ abbrev pub Connection : Type 0
 Connection = Option (List ℕ → Stream)
 
 -- the events that `bytes` add to those of the bytes before them
-abbrev pub news : (List ℕ → Stream) → (before bytes : List ℕ) → List Event
-news stream before bytes = drop (length (events_of (stream before))) (events_of (stream (before ++ bytes)))
+abbrev pub new_events : (List ℕ → Stream) → (before bytes : List ℕ) → List Event
+new_events stream before bytes = drop (length (events_of (stream before))) (events_of (stream (before ++ bytes)))
 
 -- the same for a connection that may be closed; a closed one has no events
-abbrev pub news_of : Connection → (before bytes : List ℕ) → List Event
-news_of None before bytes = []
-news_of (Some stream) before bytes = news stream before bytes
+abbrev pub new_events_of : Connection → (before bytes : List ℕ) → List Event
+new_events_of None before bytes = []
+new_events_of (Some stream) before bytes = new_events stream before bytes
 
 -- the connection after these bytes
 abbrev pub later : Connection → List ℕ → Connection
@@ -49,18 +49,18 @@ module _ (closes : Request → Bool) where
   ends (Failed fault) = true
 
   -- the events up to and including the first one that closes
-  abbrev pub until_end : List Event → List Event
-  until_end [] = []
-  until_end (event ∷ events) = event ∷ (if ends event then [] else until_end events)
+  abbrev pub up_to_close : List Event → List Event
+  up_to_close [] = []
+  up_to_close (event ∷ events) = event ∷ (if ends event then [] else up_to_close events)
 
-  abbrev pub has_end : List Event → Bool
-  has_end [] = false
-  has_end (event ∷ events) = ends event || has_end events
+  abbrev pub has_close : List Event → Bool
+  has_close [] = false
+  has_close (event ∷ events) = ends event || has_close events
 
   -- An empty frame closes its connection.
   abbrev pub after_bytes : Connection → List ℕ → Connection
   after_bytes connection [] = None
-  after_bytes connection (byte ∷ bytes) = if has_end (news_of connection [] (byte ∷ bytes)) then None else later connection (byte ∷ bytes)
+  after_bytes connection (byte ∷ bytes) = if has_close (new_events_of connection [] (byte ∷ bytes)) then None else later connection (byte ∷ bytes)
 
 -- the events of one connection as items
 abbrev pub items_of : ℕ → List Event → List Item
@@ -74,24 +74,24 @@ with_link connections link connection other = if other == link then connection e
 abbrev pub items_from : (Request → Bool) → (ℕ → Connection) → List Frame → List Item
 items_from closes connections [] = []
 items_from closes connections (frame ∷ frames) =
-    items_of frame.link (until_end closes (news_of (connections frame.link) [] frame.bytes))
+    items_of frame.link (up_to_close closes (new_events_of (connections frame.link) [] frame.bytes))
     ++ items_from closes (with_link connections frame.link (after_bytes closes (connections frame.link) frame.bytes)) frames
 
 -- the connections before any byte was sent
-abbrev pub unsent : WireLimits → ℕ → Connection
-unsent limits link = Some (stream_at limits 0)
+abbrev pub nothing_sent : WireLimits → ℕ → Connection
+nothing_sent limits link = Some (stream_at limits 0)
 
 -- The items of these frames, in order. A QUIT closes its connection.
 abbrev pub order : WireLimits → List Frame → List Item
-order limits frames = items_from is_quit (unsent limits) frames
+order limits frames = items_from is_quit (nothing_sent limits) frames
 
 -- no request closes its connection
-abbrev pub closes_none : Request → Bool
-closes_none request = false
+abbrev pub never_closes : Request → Bool
+never_closes request = false
 
 -- the same order, but a QUIT closes nothing
-abbrev pub open_order : WireLimits → List Frame → List Item
-open_order limits frames = items_from closes_none (unsent limits) frames
+abbrev pub order_without_quits : WireLimits → List Frame → List Item
+order_without_quits limits frames = items_from never_closes (nothing_sent limits) frames
 
 -- the items of a connection, and those of all others
 abbrev pub items_at : ℕ → List Item → List Item
@@ -105,14 +105,14 @@ abbrev pub frames_without : ℕ → List Frame → List Frame
 frames_without link frames = filter (λ frame. not (frame.link == link)) frames
 
 -- prepends the bytes of a frame; an empty frame ends the stream
-abbrev pub joined : List ℕ → List ℕ → List ℕ
-joined [] rest = []
-joined (byte ∷ bytes) rest = byte ∷ bytes ++ rest
+abbrev pub before_empty_frame : List ℕ → List ℕ → List ℕ
+before_empty_frame [] rest = []
+before_empty_frame (byte ∷ bytes) rest = byte ∷ bytes ++ rest
 
 -- all bytes of a connection before its first empty frame
 abbrev pub stream : ℕ → List Frame → List ℕ
 stream link [] = []
-stream link (frame ∷ frames) = if frame.link == link then joined frame.bytes (stream link frames) else stream link frames
+stream link (frame ∷ frames) = if frame.link == link then before_empty_frame frame.bytes (stream link frames) else stream link frames
 
 -- drops the items of a connection that come after its closing item
 abbrev pub closing : (Request → Bool) → List Item → List Item

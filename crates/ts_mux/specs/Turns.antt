@@ -3,8 +3,8 @@ use Rattle.std.specs.Prelude.{◌≡◌, ℕ, List, [], ◌∷◌}
 use Rattle.ts_spec.specs.Wire.{Request as Words, Then, Broken}
 use Rattle.ts_resp.specs.Reading.{Reading, stream_of}
 use Rattle.ts_mux.specs.declared.frame.Frame.{Frame}
-use Rattle.ts_mux.specs.declared.hand.Turn.{Turn}
-use Rattle.ts_mux.specs.declared.hand.Turn.TheVariants.{Request, Fault, NotYet, Memory}
+use Rattle.ts_mux.specs.declared.current_connection.Turn.{Turn}
+use Rattle.ts_mux.specs.declared.current_connection.Turn.TheVariants.{Request, Fault, NotYet, Memory}
 use Rattle.ts_mux.specs.Order.{Item, Asked, Failed, events_of, without}
 
 -- a fact about the item, if there is one
@@ -43,17 +43,17 @@ OnNotYet NotYet P = P
 OnNotYet Memory P = Unit {0}
 
 -- the result describes the next event of a connection's reader
-abbrev pub SaysOf : Turn → ℕ → (old new : Reading) → Type 0
-SaysOf (Request link words) at old new =
+abbrev pub IsNextOfReader : Turn → ℕ → (old new : Reading) → Type 0
+IsNextOfReader (Request link words) at old new =
     (link ≡ at) × ((place : ℕ) × ((more : List ℕ) → stream_of old more ≡ Then words.items place (stream_of new more)))
-SaysOf (Fault link protocol) at old new =
+IsNextOfReader (Fault link protocol) at old new =
     (link ≡ at) × ((more : List ℕ) → stream_of new more ≡ Broken protocol.kind protocol.place) × ((more : List ℕ) → stream_of new more ≡ stream_of old more)
-SaysOf NotYet at old new = ((more : List ℕ) → stream_of new more ≡ stream_of old more) × (events_of (stream_of new []) ≡ [])
-SaysOf Memory at old new = (more : List ℕ) → stream_of new more ≡ stream_of old more
+IsNextOfReader NotYet at old new = ((more : List ℕ) → stream_of new more ≡ stream_of old more) × (events_of (stream_of new []) ≡ [])
+IsNextOfReader Memory at old new = (more : List ℕ) → stream_of new more ≡ stream_of old more
 
 -- the result describes the next item of a `Mux`; an error has not closed its connection yet
-abbrev pub GivesTurn : Turn → (old new : List Frame → List Item) → Type 0
-GivesTurn (Request link words) old new = (frames : List Frame) → old frames ≡ record { link = link; event = Asked words.items } ∷ new frames
-GivesTurn (Fault link protocol) old new = (frames : List Frame) → old frames ≡ record { link = link; event = Failed protocol } ∷ without link (new frames)
-GivesTurn NotYet old new = ((frames : List Frame) → new frames ≡ old frames) × (new [] ≡ [])
-GivesTurn Memory old new = (frames : List Frame) → new frames ≡ old frames
+abbrev pub IsNextTurn : Turn → (old new : List Frame → List Item) → Type 0
+IsNextTurn (Request link words) old new = (frames : List Frame) → old frames ≡ record { link = link; event = Asked words.items } ∷ new frames
+IsNextTurn (Fault link protocol) old new = (frames : List Frame) → old frames ≡ record { link = link; event = Failed protocol } ∷ without link (new frames)
+IsNextTurn NotYet old new = ((frames : List Frame) → new frames ≡ old frames) × (new [] ≡ [])
+IsNextTurn Memory old new = (frames : List Frame) → new frames ≡ old frames

@@ -17,13 +17,13 @@ pub struct Frame {
 }
 
 // Two numbers of 64 bits (20 digits each), a space and a line feed.
-const ROOM: usize = 42;
+const HEADER_CAPACITY: usize = 42;
 
 /// The header of a frame: connection number, space, length in bytes and line feed. A written frame may be longer than
 /// one that `Frames` accepts.
 #[derive(Drop)]
 pub struct Header {
-    room: [u8; ROOM],
+    header_buffer: [u8; HEADER_CAPACITY],
     len: usize,
 }
 
@@ -32,7 +32,7 @@ impl Model for Header {
 
     ghost Value = { List ℕ };
 
-    ghost view = { λ h. take h.len h.room };
+    ghost view = { λ h. take h.len h.header_buffer };
 
     ghost invariant = { λ h. h.len ≤ 42 };
 }
@@ -42,12 +42,12 @@ impl Header {
     pub fn new(link: u32, len: usize) -> Header
         ensures { result ≡ header link len }
     {
-        let mut room = [0; ROOM];
-        let space = put_number(&mut room, 0, link as u64);
-        let second = put(&mut room, space, b" ");
-        let feed = put_number(&mut room, second, len as u64);
-        let len = put(&mut room, feed, b"\n");
-        Header { room, len }
+        let mut header_buffer = [0; HEADER_CAPACITY];
+        let space = put_number(&mut header_buffer, 0, link as u64);
+        let second = put(&mut header_buffer, space, b" ");
+        let feed = put_number(&mut header_buffer, second, len as u64);
+        let len = put(&mut header_buffer, feed, b"\n");
+        Header { header_buffer, len }
     }
 
     /// The bytes of the header, at most 42. Allocates nothing.
@@ -55,29 +55,29 @@ impl Header {
         ensures bytes { result.now ≡ self.now }
         ensures short { length result.now ≤ 42 }
     {
-        &self.room[..self.len]
+        &self.header_buffer[..self.len]
     }
 }
 
 // Copies `text` to offset `at`. Returns the offset after it.
-fn put(room: &mut [u8], at: usize, text: &[u8]) -> usize
-    requires { at + length text.now ≤ length room.old }
-    ensures text { take result room.new ≡ take at room.old ++ text.now }
+fn put(header_buffer: &mut [u8], at: usize, text: &[u8]) -> usize
+    requires { at + length text.now ≤ length header_buffer.old }
+    ensures text { take result header_buffer.new ≡ take at header_buffer.old ++ text.now }
     ensures after { result ≡ at + length text.now }
-    ensures size { length room.new ≡ length room.old }
+    ensures size { length header_buffer.new ≡ length header_buffer.old }
 {
     let after = at + text.len();
-    room[at..after].copy_from_slice(text);
+    header_buffer[at..after].copy_from_slice(text);
     after
 }
 
 // Writes a decimal number at offset `at`. Returns the offset after it.
-fn put_number(room: &mut [u8], at: usize, number: u64) -> usize
-    requires { at + 20 ≤ length room.old }
-    ensures text { take result room.new ≡ take at room.old ++ decimal number }
+fn put_number(header_buffer: &mut [u8], at: usize, number: u64) -> usize
+    requires { at + 20 ≤ length header_buffer.old }
+    ensures text { take result header_buffer.new ≡ take at header_buffer.old ++ decimal number }
     ensures after { result ≤ at + 20 }
-    ensures size { length room.new ≡ length room.old }
+    ensures size { length header_buffer.new ≡ length header_buffer.old }
 {
     let mut buffer = Buffer::new();
-    put(room, at, buffer.format(number).as_bytes())
+    put(header_buffer, at, buffer.format(number).as_bytes())
 }

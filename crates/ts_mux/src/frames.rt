@@ -5,7 +5,7 @@ ghost use Rattle.ts_mux.specs.Framing.{IsLink, capture_of, fed, unfinished, ende
 ghost use Rattle.ts_mux.specs.NextFrames.{IfWhole, UnlessWhole, OnNotYet, IfBroken, OnMemory, HasWhole};
 
 use crate::Frame;
-use crate::part::Part;
+use crate::frame_progress::FrameProgress;
 use bytes::BytesMut;
 use std::alloc::{AllocError, Global};
 use std::marker::Model;
@@ -32,25 +32,25 @@ pub struct Frames {
     // offsets: of the first byte of the current frame, and of the first unread byte
     begin: u64,
     place: u64,
-    part: Part,
+    frame_progress: FrameProgress,
     unread: BytesMut,
 }
 
 impl Model for Frames {
     ghost use Rattle.std.specs.Prelude.{◌+◌, ◌^◌, ◌<◌, ◌≤◌, length};
-    ghost use Rattle.ts_mux.specs.Framing.{Framing, mode_of, IsPart, IsOpen};
+    ghost use Rattle.ts_mux.specs.Framing.{Framing, mode_of, IsValidProgress, NeedsBytes};
 
     ghost Value = { Framing };
 
     ghost view = { λ f. record {
       begin = f.begin;
       place = f.place;
-      mode = mode_of f.part;
+      mode = mode_of f.frame_progress;
       unread = f.unread.items;
     } };
 
     ghost invariant = { λ f. (f.begin ≤ f.place) × (f.place + length f.unread.items < 2 ^ 64)
-        × IsPart f.part × IsOpen f.part };
+        × IsValidProgress f.frame_progress × NeedsBytes f.frame_progress };
 }
 
 impl Frames {
@@ -64,7 +64,7 @@ impl Frames {
             alloc,
             begin: 0,
             place: 0,
-            part: Part::Link { number: None },
+            frame_progress: FrameProgress::Link { number: None },
             unread: BytesMut::new(alloc),
         }
     }
@@ -118,9 +118,11 @@ impl Frames {
         if !self.unread.is_empty() {
             return Some(self.begin);
         }
-        match self.part {
-            Part::Link { number: None } => None,
-            Part::Link { .. } | Part::Length { .. } | Part::Body { .. } => Some(self.begin),
+        match self.frame_progress {
+            FrameProgress::Link { number: None } => None,
+            FrameProgress::Link { .. }
+            | FrameProgress::Length { .. }
+            | FrameProgress::Body { .. } => Some(self.begin),
         }
     }
 }

@@ -5,8 +5,8 @@ ghost use Rattle.ts_spec.specs.Run.{is_quit};
 ghost use Rattle.ts_mux.specs.declared.frame.Frame.{Frame};
 ghost use Rattle.ts_mux.specs.Capture.{Ended, capture, frames_of, ending_of, all_framed};
 ghost use Rattle.ts_mux.specs.Framing.{IsFrame};
-ghost use Rattle.ts_mux.specs.Order.{Item, events_of, until_end, items_of, items_at, without, frames_without, stream};
-ghost use Rattle.ts_mux.specs.Order.{order, open_order, closing};
+ghost use Rattle.ts_mux.specs.Order.{Item, events_of, up_to_close, items_of, items_at, without, frames_without, stream};
+ghost use Rattle.ts_mux.specs.Order.{order, order_without_quits, closing};
 
 use ts_spec::WireLimits;
 
@@ -20,7 +20,7 @@ pub fn written_frames_read_back()
 /// to a protocol error that comes before.
 pub fn each_connection_has_its_own_requests(limits: WireLimits)
     ensures { (link : ℕ) (frames : List Frame) → items_at link (order limits frames)
-        ≡ items_of link (until_end is_quit (events_of (stream_at limits 0 (stream link frames)))) }
+        ≡ items_of link (up_to_close is_quit (events_of (stream_at limits 0 (stream link frames)))) }
 {}
 
 /// Law: the items of the other connections do not depend on this connection's frames.
@@ -29,10 +29,10 @@ pub fn connections_stand_apart(limits: WireLimits)
         → order limits (frames_without link frames) ≡ without link (order limits frames) }
 {}
 
-/// Law: dropping what each connection sends after its first QUIT or error turns `open_order` into `order`. Closing one
+/// Law: dropping what each connection sends after its first QUIT or error turns `order_without_quits` into `order`. Closing one
 /// connection first does not affect the others.
 pub fn closings_make_the_order(limits: WireLimits)
-    ensures order { (frames : List Frame) → closing is_quit (open_order limits frames) ≡ order limits frames }
+    ensures order { (frames : List Frame) → closing is_quit (order_without_quits limits frames) ≡ order limits frames }
     ensures close { (link : ℕ) (items : List Item)
         → closing is_quit (without link items) ≡ without link (closing is_quit items) }
 {}

@@ -1,16 +1,16 @@
 //! Interleaved connections: parses the frames of a capture, and yields the requests of all connections in order.
 #![tactic(auto)]
 
+mod current_connection;
 mod frame;
+mod frame_progress;
 mod frames;
-mod hand;
 mod laws;
 mod mux;
-mod part;
 
+pub use current_connection::Turn;
 pub use frame::{Frame, Header};
 pub use frames::{Frames, NextFrame};
-pub use hand::Turn;
 pub use laws::{
     closings_make_the_order, connections_stand_apart, each_connection_has_its_own_requests,
     written_frames_read_back,

@@ -3,9 +3,9 @@ ghost use Rattle.std.specs.Prelude.{◌≡◌, ◌≢◌, ℕ, ◌+◌, ◌^◌,
 ghost use Rattle.std.specs.Prelude.{OnOk, OnErr};
 ghost use Rattle.ts_mux.specs.declared.frame.Frame.{Frame};
 ghost use Rattle.ts_mux.specs.Capture.{MOST_LINKS};
-ghost use Rattle.ts_mux.specs.Links.{AreAsked, AreWithin, Marks, hand_fed, hand_without};
+ghost use Rattle.ts_mux.specs.Links.{AreDrained, AreFedAtMost, MarksClosed, bytes_fed_to_current, current_without};
 
-use crate::hand::Hand;
+use crate::current_connection::CurrentConnection;
 use crate::{Frame, Turn};
 use std::alloc::{AllocError, Global};
 use std::collections::BTreeMap;
@@ -26,23 +26,23 @@ pub struct Mux {
     closed: [bool; LINKS],
     // the readers of the open connections that have sent bytes; the current connection's may be a fresh one here
     readers: BTreeMap<u32, Reader>,
-    hand: Option<Hand>,
+    current_connection: Option<CurrentConnection>,
     // how many bytes were delivered
     delivered: u64,
     ghost words: { 1 ≤ limits.words },
     ghost word_bytes: { 1 ≤ limits.word_bytes },
     ghost request_bytes: { 1 ≤ limits.request_bytes },
     ghost line_bytes: { 1 ≤ limits.line_bytes },
-    ghost asked: { AreAsked readers },
-    ghost within: { AreWithin delivered readers },
-    ghost hand_within: { hand_fed hand ≤ delivered },
+    ghost asked: { AreDrained readers },
+    ghost within: { AreFedAtMost delivered readers },
+    ghost current_within: { bytes_fed_to_current current_connection ≤ delivered },
 }
 
 impl Mux {
     ghost use Rattle.ts_mux.specs.Framing.{IsFrame};
-    ghost use Rattle.ts_mux.specs.Order.{open_order, without};
-    ghost use Rattle.ts_mux.specs.Muxing.{ahead, delivered_to};
-    ghost use Rattle.ts_mux.specs.Turns.{IfItem, IfRequest, IfFault, UnlessItem, OnNotYet, GivesTurn};
+    ghost use Rattle.ts_mux.specs.Order.{order_without_quits, without};
+    ghost use Rattle.ts_mux.specs.Muxing.{pending_items, delivered_to};
+    ghost use Rattle.ts_mux.specs.Turns.{IfItem, IfRequest, IfFault, UnlessItem, OnNotYet, IsNextTurn};
 
     /// A `Mux` without frames. Allocates nothing.
     pub fn new(alloc: Global, limits: WireLimits) -> Mux
@@ -50,26 +50,29 @@ impl Mux {
         requires word_bytes { 1 ≤ limits.word_bytes }
         requires request_bytes { 1 ≤ limits.request_bytes }
         requires line_bytes { 1 ≤ limits.line_bytes }
-        ensures order { (frames : List Frame) → All IsFrame frames → ahead result frames ≡ open_order limits frames }
+        ensures order { (frames : List Frame) → All IsFrame frames
+            → pending_items result frames ≡ order_without_quits limits frames }
         ensures delivered { delivered_to result ≡ 0 }
     {
         Mux {
             alloc,
             limits,
-            closed: all_open(),
+            closed: none_closed(),
             readers: BTreeMap::new(alloc),
-            hand: None,
+            current_connection: None,
             delivered: 0,
         }
     }
 
     /// Delivers a frame. An empty frame closes its connection; a frame of a closed connection is ignored.
     pub fn deliver(&mut self, frame: Frame) -> Result<(), AllocError>
-        requires asked { ahead self.old [] ≡ [] }
+        requires asked { pending_items self.old [] ≡ [] }
         requires bound { delivered_to self.old + length frame.bytes < 2 ^ 64 }
-        ensures ok { OnOk result ((frames : List Frame) → ahead self.new frames ≡ ahead self.old (frame ∷ frames)) }
+        ensures ok { OnOk result ((frames : List Frame)
+            → pending_items self.new frames ≡ pending_items self.old (frame ∷ frames)) }
         ensures delivered { OnOk result (delivered_to self.new ≡ delivered_to self.old + length frame.bytes) }
-        ensures err { OnErr result ((frames : List Frame) → ahead self.new frames ≡ ahead self.old frames) }
+        ensures err { OnErr result ((frames : List Frame)
+            → pending_items self.new frames ≡ pending_items self.old frames) }
         ensures err_delivered { OnErr result (delivered_to self.new ≡ delivered_to self.old) }
     {
         let bytes = frame.bytes.bytes();
@@ -88,13 +91,16 @@ impl Mux {
     /// request never does.
     pub fn next(&mut self) -> Turn
         ensures item { IfItem result
-            (λ item. (frames : List Frame) → ahead self.old frames ≡ item ∷ ahead self.new frames) }
+            (λ item. (frames : List Frame) → pending_items self.old frames ≡ item ∷ pending_items self.new frames) }
         ensures words { IfRequest result (λ words. words ≢ []) }
         ensures closed { IfFault result
-            (λ link. (frames : List Frame) → without link (ahead self.new frames) ≡ ahead self.new frames) }
-        ensures progress { IfItem result (λ _. length (ahead self.new []) < length (ahead self.old [])) }
-        ensures same { UnlessItem result ((frames : List Frame) → ahead self.new frames ≡ ahead self.old frames) }
-        ensures not_yet { OnNotYet result (ahead self.new [] ≡ []) }
+            (λ link. (frames : List Frame)
+            → without link (pending_items self.new frames) ≡ pending_items self.new frames) }
+        ensures progress { IfItem result (λ _. length (pending_items self.new [])
+            < length (pending_items self.old [])) }
+        ensures same { UnlessItem result ((frames : List Frame)
+            → pending_items self.new frames ≡ pending_items self.old frames) }
+        ensures not_yet { OnNotYet result (pending_items self.new [] ≡ []) }
         ensures delivered { delivered_to self.new ≡ delivered_to self.old }
     {
         match self.ask() {
@@ -111,43 +117,44 @@ impl Mux {
     /// Takes back the vector of a handled request, so that the next request of the current connection can use its
     /// capacity again. Frees the memory of unusually large requests.
     pub fn give_back(&mut self, words: Vec<Word>)
-        ensures same { (frames : List Frame) → ahead self.new frames ≡ ahead self.old frames }
+        ensures same { (frames : List Frame) → pending_items self.new frames ≡ pending_items self.old frames }
         ensures delivered { delivered_to self.new ≡ delivered_to self.old }
     {
-        give_back_to(&mut self.hand, words);
+        recycle_in_current(&mut self.current_connection, words);
     }
 
     // The same, but an error closes nothing.
     fn ask(&mut self) -> Turn
         ensures words { IfRequest result (λ words. words ≢ []) }
-        ensures gives { GivesTurn result (ahead self.old) (ahead self.new) }
+        ensures gives { IsNextTurn result (pending_items self.old) (pending_items self.new) }
         ensures delivered { delivered_to self.new ≡ delivered_to self.old }
     {
-        match &mut self.hand {
+        match &mut self.current_connection {
             None => Turn::NotYet,
-            Some(hand) => hand.next(),
+            Some(current_connection) => current_connection.next(),
         }
     }
 
     /// Closes a connection and drops its unread bytes. Allocates nothing.
     pub fn close(&mut self, link: u32)
-        ensures others { (frames : List Frame) → ahead self.new frames ≡ without link (ahead self.old frames) }
+        ensures others { (frames : List Frame)
+            → pending_items self.new frames ≡ without link (pending_items self.old frames) }
         ensures delivered { delivered_to self.new ≡ delivered_to self.old }
     {
-        mark(&mut self.closed, link);
+        mark_closed(&mut self.closed, link);
         self.readers.remove(&link);
-        let_go(&mut self.hand, link);
+        drop_current(&mut self.current_connection, link);
     }
 }
 
-fn all_open() -> [bool; LINKS]
+fn none_closed() -> [bool; LINKS]
     ensures { (link : ℕ) → link ≤ MOST_LINKS → get_or result link true ≡ false }
 {
     [false; LINKS]
 }
 
-fn mark(closed: &mut [bool; LINKS], link: u32)
-    ensures { Marks link closed.old closed.new }
+fn mark_closed(closed: &mut [bool; LINKS], link: u32)
+    ensures { MarksClosed link closed.old closed.new }
 {
     let link = link as usize;
     if link >= LINKS {
@@ -157,21 +164,21 @@ fn mark(closed: &mut [bool; LINKS], link: u32)
 }
 
 // Drops the current connection if it is `link`.
-fn let_go(hand: &mut Option<Hand>, link: u32)
-    ensures { hand.new ≡ hand_without link hand.old }
+fn drop_current(current_connection: &mut Option<CurrentConnection>, link: u32)
+    ensures { current_connection.new ≡ current_without link current_connection.old }
 {
-    if let Some(at) = hand
+    if let Some(at) = current_connection
         && at.link == link
     {
-        *hand = None;
+        *current_connection = None;
     }
 }
 
 // Passes the vector of a handled request back to the current connection, if there is one.
-fn give_back_to(hand: &mut Option<Hand>, words: Vec<Word>)
-    ensures { hand.new ≡ hand.old }
+fn recycle_in_current(current_connection: &mut Option<CurrentConnection>, words: Vec<Word>)
+    ensures { current_connection.new ≡ current_connection.old }
 {
-    if let Some(at) = hand {
+    if let Some(at) = current_connection {
         at.give_back(words);
     }
 }

@@ -6,15 +6,15 @@ use Rattle.std.proofs.lemmas.List.{length-append}
 use Rattle.ts_spec.specs.declared.limits.Limits.{Limits}
 use Rattle.ts_spec.specs.Key.{Key}
 use Rattle.ts_spec.specs.Keyed.{get}
-use Rattle.ts_spec.specs.Kept.{Keeping}
-use Rattle.ts_spec.specs.KeptQuestions.{kept_asked}
-use Rattle.ts_spec.specs.Questions.{asked}
+use Rattle.ts_spec.specs.StoredSeries.{StoredKeys}
+use Rattle.ts_spec.specs.StoredQueries.{stored_asked}
+use Rattle.ts_spec.specs.Queries.{asked}
 use Rattle.ts_spec.specs.Rules.{open_of, has_members, bucket_sample, opened, shown_by, shown_at, latest_at}
 use Rattle.ts_spec.specs.Sample.{Point, at_times, put, put_all}
 use Rattle.ts_spec.specs.State.{Rule, Record, State, rule_into, edge}
 use Rattle.ts_spec.specs.Valid.{IsValid}
-use Rattle.ts_spec.proofs.KeptAsked.{asked-kept}
-use Rattle.ts_db.specs.Held.{Stock, Leads}
+use Rattle.ts_spec.proofs.StoredAsked.{asked-kept}
+use Rattle.ts_db.specs.DbState.{DbView, RepresentsSome}
 
 not-both : (t u : ℕ) → nat_lt t u ≡ true → nat_lt u t ≡ true → ⊥
 not-both t u is other = grind (arith, nat_tests)
@@ -60,8 +60,8 @@ few-asked limits m true k valid = omega (arith, few-latest (get k m) (rule_into 
 few-asked limits m false k valid = omega (arith, few-shown limits m k valid)
 
 -- what is kept of a key shows no more than the limit, and the open bucket
-pub few_kept : (stock : Stock) → Leads stock (λ held. ⊤) → (latest : Bool) (k : Key) → length (kept_asked stock.keys latest k) ≤ suc stock.limits.samples
-few_kept stock w latest k =
+pub few_kept : (db_view : DbView) → RepresentsSome db_view (λ held. ⊤) → (latest : Bool) (k : Key) → length (stored_asked db_view.keys latest k) ≤ suc db_view.limits.samples
+few_kept db_view w latest k =
     let m = w.to.state in
-    subst (λ (keys : Keeping). length (kept_asked keys latest k) ≤ suc stock.limits.samples) (sym w.stands.state.kept)
-    (subst (λ (ps : List Point). length ps ≤ suc stock.limits.samples) (sym (asked-kept m latest k)) (few-asked stock.limits m latest k w.stands.state.valid))
+    subst (λ (keys : StoredKeys). length (stored_asked keys latest k) ≤ suc db_view.limits.samples) (sym w.stands.state.kept)
+    (subst (λ (ps : List Point). length ps ≤ suc db_view.limits.samples) (sym (asked-kept m latest k)) (few-asked db_view.limits m latest k w.stands.state.valid))

@@ -15,7 +15,7 @@ upto to ps = map row_of (at_times (λ t. nat_le t to) ps)
 -- what was handed on, and what of the samples not read yet is still wanted, are all rows
 pub record Reads (has : List Row → Type 0) (all : List Row) (to left : ℕ) (rest : List Point) : Type 0 where
   pub done : List Row
-  pub handed : has done
+  pub emitted : has done
   pub split : all ≡ done ++ take left (upto to rest)
   pub rises : IsAscending rest
 
@@ -48,7 +48,7 @@ take-none (suc left) (r ∷ rs) none = absurd (cc none)
 
 module _ (has : List Row → Type 0) (all : List Row) (to : ℕ) where
   done-all : (left : ℕ) (rest : List Point) → Reads has all to left rest → take left (upto to rest) ≡ [] → has all
-  done-all left rest reads none = subst has (sym (reads.split ∙ ap (λ (rs : List Row). reads.done ++ rs) none ∙ append-nil reads.done)) reads.handed
+  done-all left rest reads none = subst has (sym (reads.split ∙ ap (λ (rs : List Row). reads.done ++ rs) none ∙ append-nil reads.done)) reads.emitted
 
   -- no sample is left
   pub reads-none : (left : ℕ) (rest : List Point) → Reads has all to left rest → first_of rest ≡ None → has all
@@ -75,7 +75,7 @@ module _ (has : List Row → Type 0) (all : List Row) (to : ℕ) where
       let told : row ≡ row_of q = same ∙ ap row_of (sym first) in
       record {
         done = reads.done ++ row ∷ [];
-        handed = taken reads.done reads.handed;
+        emitted = taken reads.done reads.emitted;
         split =
             reads.split
             ∙ ap (λ (rs : List Row). reads.done ++ take (suc left) rs) (some-from to q qs (subst (λ (x : Point). x.time ≤ to) (sym first) le))

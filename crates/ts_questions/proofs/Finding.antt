@@ -7,18 +7,18 @@ use Rattle.ts_spec.specs.Answer.{answer}
 use Rattle.ts_spec.specs.Command.{Query}
 use Rattle.ts_spec.specs.Key.{Key}
 use Rattle.ts_spec.specs.Keyed.{get}
-use Rattle.ts_spec.specs.Questions.{asked, rows_response, range_response}
+use Rattle.ts_spec.specs.Queries.{asked, rows_response, range_response}
 use Rattle.ts_spec.specs.Rules.{open_of, opened, shown_by, shown_at, latest_at, closed_rows}
 use Rattle.ts_spec.specs.Sample.{Point, IsAscending, first_of, last_of}
 use Rattle.ts_spec.specs.State.{Rule, Record, State, rule_into, edge}
 use Rattle.ts_spec.specs.Valid.{IsValid}
 use Rattle.ts_spec.proofs.Samples.{ascending-times, ascending-put_all}
-use Rattle.ts_range.specs.Walk.{times_of}
+use Rattle.ts_range.specs.AskedSamples.{times_of}
 use Rattle.ts_db.specs.declared.fault.DbFault.TheVariants.{NoKey}
-use Rattle.ts_spec.specs.Kept.{Keeping}
-use Rattle.ts_spec.specs.KeptQuestions.{kept_asked}
-use Rattle.ts_spec.proofs.KeptAsked.{asked-kept}
-use Rattle.ts_db.specs.Held.{Held, Stock, Stands, Leads, Finds, ends_of}
+use Rattle.ts_spec.specs.StoredSeries.{StoredKeys}
+use Rattle.ts_spec.specs.StoredQueries.{stored_asked}
+use Rattle.ts_spec.proofs.StoredAsked.{asked-kept}
+use Rattle.ts_db.specs.DbState.{DbState, DbView, Represents, RepresentsSome, Finds, ends_of}
 use Rattle.ts_questions.specs.Answering.{IsReplyText}
 
 -- an answer that was found
@@ -50,15 +50,15 @@ asked_ascending limits m false k valid = go (get k m) refl (rule_into m k)
     go (Some d) is r = shows_ascending d (valid.sound k d is).ascending r
 
 -- what is kept of a key shows ascending samples too
-pub kept_ascending : (stock : Stock) → Leads stock (λ held. ⊤) → (latest : Bool) (k : Key) → IsAscending (kept_asked stock.keys latest k)
-kept_ascending stock w latest k =
+pub kept_ascending : (db_view : DbView) → RepresentsSome db_view (λ held. ⊤) → (latest : Bool) (k : Key) → IsAscending (stored_asked db_view.keys latest k)
+kept_ascending db_view w latest k =
     let m = w.to.state in
-    subst (λ (keys : Keeping). IsAscending (kept_asked keys latest k)) (sym w.stands.state.kept)
-    (subst IsAscending (sym (asked-kept m latest k)) (asked_ascending stock.limits m latest k w.stands.state.valid))
+    subst (λ (keys : StoredKeys). IsAscending (stored_asked keys latest k)) (sym w.stands.state.kept)
+    (subst IsAscending (sym (asked-kept m latest k)) (asked_ascending db_view.limits m latest k w.stands.state.valid))
 
 -- what is kept of a key shows what each state that is stood for shows
-pub asked_stands : (stock : Stock) (latest : Bool) (k : Key) (from : Held) → Stands stock from → kept_asked stock.keys latest k ≡ asked from.state latest k
-asked_stands stock latest k from stands = ap (λ (keys : Keeping). kept_asked keys latest k) stands.state.kept ∙ asked-kept from.state latest k
+pub asked_stands : (db_view : DbView) (latest : Bool) (k : Key) (from : DbState) → Represents db_view from → stored_asked db_view.keys latest k ≡ asked from.state latest k
+asked_stands db_view latest k from stands = ap (λ (keys : StoredKeys). stored_asked keys latest k) stands.state.kept ∙ asked-kept from.state latest k
 
 -- a key that is not there
 pub finds_none : {T : Type 0} (o : Option Record) (what : T → Type 0) → false ≡ is_some o → Finds o what (Err NoKey)

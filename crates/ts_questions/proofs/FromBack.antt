@@ -2,7 +2,7 @@
 use Rattle.std.proofs.Common.{◌≡◌, ℕ, zero, suc, ◌+◌, ◌-◌, ◌≤◌, List, [], ◌∷◌, ◌++◌, length, take, refl, sym, ◌∙◌, ap, subst, append_assoc, append-nil, arith}
 use Rattle.std.specs.Prelude.{Option, None, Some, option_map}
 use Rattle.std.proofs.lemmas.Bool.Decides.{nat_tests}
-use Rattle.ts_spec.specs.Answer.{Row, first_ones}
+use Rattle.ts_spec.specs.Answer.{Row, limit_rows}
 use Rattle.ts_spec.specs.Sample.{Point, is_within, between}
 use Rattle.ts_sample.specs.Chunk.{joined}
 use Rattle.ts_series.specs.Seams.{IsSeam, IsSeamed}
@@ -11,8 +11,8 @@ use Rattle.ts_questions.proofs.WalkBounds.{one, fewer}
 -- what was handed on, and so many of the rows that are left as are still wanted, are all rows
 pub record AreHanded (has : List Row → Type 0) (all : List Row) (left : Option ℕ) (rest : List Row) : Type 0 where
   pub done : List Row
-  pub handed : has done
-  pub split : all ≡ done ++ first_ones left rest
+  pub emitted : has done
+  pub split : all ≡ done ++ limit_rows left rest
 
 -- how many more are wanted after so many
 abbrev pub left_after : Option ℕ → ℕ → Option ℕ
@@ -27,28 +27,28 @@ take-parts (suc n) (x ∷ xs) ys =
     let less : n - length (take n xs) ≡ suc n - suc (length (take n xs)) = omega arith in
     ap (λ (rs : List Row). x ∷ rs) (take-parts n xs ys ∙ ap (λ (m : ℕ). take n xs ++ take m ys) less)
 
-first-parts : (left : Option ℕ) (xs ys : List Row) → first_ones left (xs ++ ys) ≡ first_ones left xs ++ first_ones (left_after left (length (first_ones left xs))) ys
+first-parts : (left : Option ℕ) (xs ys : List Row) → limit_rows left (xs ++ ys) ≡ limit_rows left xs ++ limit_rows (left_after left (length (limit_rows left xs))) ys
 first-parts None xs ys = refl
 first-parts (Some n) xs ys = take-parts n xs ys
 
 module _ (has later : List Row → Type 0) (all : List Row) (left : Option ℕ) where
   -- those of one share more were handed on
-  pub handed-more : (xs ys : List Row) → AreHanded has all left (xs ++ ys) → ((before : List Row) → has before → later (before ++ first_ones left xs))
-      → AreHanded later all (left_after left (length (first_ones left xs))) ys
-  handed-more xs ys so_far more = record {
-    done = so_far.done ++ first_ones left xs;
-    handed = more so_far.done so_far.handed;
-    split = so_far.split ∙ ap (λ (rs : List Row). so_far.done ++ rs) (first-parts left xs ys) ∙ sym (append_assoc so_far.done (first_ones left xs) (first_ones (left_after left (length (first_ones left xs))) ys));
+  pub emitted-more : (xs ys : List Row) → AreHanded has all left (xs ++ ys) → ((before : List Row) → has before → later (before ++ limit_rows left xs))
+      → AreHanded later all (left_after left (length (limit_rows left xs))) ys
+  emitted-more xs ys so_far more = record {
+    done = so_far.done ++ limit_rows left xs;
+    emitted = more so_far.done so_far.emitted;
+    split = so_far.split ∙ ap (λ (rs : List Row). so_far.done ++ rs) (first-parts left xs ys) ∙ sym (append_assoc so_far.done (limit_rows left xs) (limit_rows (left_after left (length (limit_rows left xs))) ys));
   }
 
   -- and those of the last one
-  pub handed-last : (xs : List Row) → AreHanded has all left xs → ((before : List Row) → has before → later (before ++ first_ones left xs)) → later all
-  handed-last xs so_far more = subst later (sym so_far.split) (more so_far.done so_far.handed)
+  pub emitted-last : (xs : List Row) → AreHanded has all left xs → ((before : List Row) → has before → later (before ++ limit_rows left xs)) → later all
+  emitted-last xs so_far more = subst later (sym so_far.split) (more so_far.done so_far.emitted)
 
 -- no more are wanted
-pub handed-full : (has : List Row → Type 0) (all rest : List Row) (left : Option ℕ) → left ≡ Some 0 → AreHanded has all left rest → has all
-handed-full has all rest left full so_far =
-    subst has (sym (so_far.split ∙ ap (λ (o : Option ℕ). so_far.done ++ first_ones o rest) full ∙ append-nil so_far.done)) so_far.handed
+pub emitted-full : (has : List Row → Type 0) (all rest : List Row) (left : Option ℕ) → left ≡ Some 0 → AreHanded has all left rest → has all
+emitted-full has all rest left full so_far =
+    subst has (sym (so_far.split ∙ ap (λ (o : Option ℕ). so_far.done ++ limit_rows o rest) full ∙ append-nil so_far.done)) so_far.emitted
 
 -- ---- what was decoded
 

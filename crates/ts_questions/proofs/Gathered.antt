@@ -15,7 +15,7 @@ use Rattle.ts_spec.specs.Filter.{value_of}
 use Rattle.ts_spec.specs.Groups.{Labelled, is_value}
 use Rattle.ts_spec.specs.Key.{Key}
 use Rattle.ts_spec.specs.Keyed.{get}
-use Rattle.ts_spec.specs.KeptQuestions.{kept_asked, kept_labels_at}
+use Rattle.ts_spec.specs.StoredQueries.{stored_asked, stored_labels_at}
 use Rattle.ts_spec.specs.Replies.{array}
 use Rattle.ts_spec.specs.Text.{Reply, line_text, text}
 use Rattle.ts_multi.proofs.Texts.{GoesOn, goes-on, whole}
@@ -25,19 +25,19 @@ use Rattle.ts_group.specs.declared.one_group.Group.{Group}
 use Rattle.ts_group.proofs.Sorted.{sum-sorted}
 use Rattle.ts_sample.specs.declared.sample.Id.{Id}
 use Rattle.ts_range.specs.Query.{query_of}
-use Rattle.ts_db.specs.Faults.{key_with}
-use Rattle.ts_db.specs.Held.{Stock}
-use Rattle.ts_questions.specs.declared.grouping.Grouping.{Grouping}
-use Rattle.ts_questions.specs.Bounds.{question_steps}
-use Rattle.ts_questions.specs.Grouping.{IsNumbered, AreAddedTo, has_label, alone, series_at, is_group_refused, group_steps, numbered, is_too_long, number_steps, numbers_steps, refusals, one_if, group_reply, groups_of_numbers}
+use Rattle.ts_db.specs.Faults.{key_of_id}
+use Rattle.ts_db.specs.DbState.{DbView}
+use Rattle.ts_questions.specs.declared.group_query.GroupQuery.{GroupQuery}
+use Rattle.ts_questions.specs.Bounds.{series_query_steps}
+use Rattle.ts_questions.specs.GroupQuery.{IsIdOfOneKey, AreAddedTo, has_label, alone, series_at, is_group_refused, group_steps, numbered, is_too_long, id_steps, ids_steps, refusals, one_if, group_reply, groups_of_ids}
 
 -- there is no series exactly where its rows are too many
-module _ (stock : Stock) (latest : Bool) (q : Query) (key : Key) where
+module _ (db_view : DbView) (latest : Bool) (q : Query) (key : Key) where
   abbrev with_rows : List Row → Labelled
-  with_rows rows = record { key = key; labels = kept_labels_at (get key stock.keys); rows = rows }
+  with_rows rows = record { key = key; labels = stored_labels_at (get key db_view.keys); rows = rows }
 
-  pub series-refused : is_none (answer stock.limits.empty_rows q (kept_asked stock.keys latest key)) ≡ is_none (series_at stock latest q key)
-  series-refused = go (answer stock.limits.empty_rows q (kept_asked stock.keys latest key))
+  pub series-refused : is_none (answer db_view.limits.empty_rows q (stored_asked db_view.keys latest key)) ≡ is_none (series_at db_view latest q key)
+  series-refused = go (answer db_view.limits.empty_rows q (stored_asked db_view.keys latest key))
     where
       go : (o : Option (List Row)) → is_none o ≡ is_none (option_map with_rows o)
       go None = refl
@@ -79,24 +79,24 @@ fewer true most = omega arith
 fewer false most = omega arith
 
 -- and no more than the question takes of each
-pub groups-few : (g : Grouping) (stock : Stock) (ks : List Key) → sum_by (group_steps g stock) ks ≤ sum_by (λ key. question_steps stock key g.query.from g.query.to) ks
-groups-few g stock [] = omega arith
-groups-few g stock (k ∷ ks) =
-    let most = λ (key : Key). question_steps stock key g.query.from g.query.to in
-    omega (arith, sum_by-cons (group_steps g stock) k ks, sum_by-cons most k ks, groups-few g stock ks, fewer (has_label stock g.by.label k) (most k))
+pub groups-few : (g : GroupQuery) (db_view : DbView) (ks : List Key) → sum_by (group_steps g db_view) ks ≤ sum_by (λ key. series_query_steps db_view key g.query.from g.query.to) ks
+groups-few g db_view [] = omega arith
+groups-few g db_view (k ∷ ks) =
+    let most = λ (key : Key). series_query_steps db_view key g.query.from g.query.to in
+    omega (arith, sum_by-cons (group_steps g db_view) k ks, sum_by-cons most k ks, groups-few g db_view ks, fewer (has_label db_view g.by.label k) (most k))
 
 pub fewer-steps : (old new selection some all : ℕ) → new ≤ old + (selection + some) → some ≤ all → new ≤ old + (selection + all)
 fewer-steps old new selection some all few less = omega (arith, few, less)
 
-module _ (stock : Stock) (g : Grouping) where
+module _ (db_view : DbView) (g : GroupQuery) where
   abbrev long : Id → Bool
-  long = is_too_long stock g
+  long = is_too_long db_view g
 
   abbrev most : Id → ℕ
-  most = number_steps stock g
+  most = id_steps db_view g
 
   abbrev series : Id → Labelled
-  series = numbered stock g
+  series = numbered db_view g
 
   -- ---- the series of one group
 
@@ -126,7 +126,7 @@ module _ (stock : Stock) (g : Grouping) where
 
   module _ (ns rest more : List Id) (n : Id) (start now next : Group) (before lost later : Bool) (old steps new : ℕ) (split : rest ≡ n ∷ more) (left : AreLeft ns rest start now before lost old steps) where
     -- one series more
-    pub left-less : long n ≡ false → (later ≡ false → AreAddedTo stock g (n ∷ []) now next) → (later ≡ false → lost ≡ false) → new ≤ steps + most n
+    pub left-less : long n ≡ false → (later ≡ false → AreAddedTo db_view g (n ∷ []) now next) → (later ≡ false → lost ≡ false) → new ≤ steps + most n
         → AreLeft ns more start next before later old new
     left-less short adds stay one = record {
       none = not-first n rest more split short ∙ left.none;
@@ -153,7 +153,7 @@ module _ (stock : Stock) (g : Grouping) where
     pub left-told : list_any long ns ≡ false
     left-told = sym left.none ∙ ap (list_any long) none
 
-    pub left-added : lost ≡ false → AreAddedTo stock g ns start now
+    pub left-added : lost ≡ false → AreAddedTo db_view g ns start now
     left-added kept = λ ms is.
         let on = left.added kept ms is in
         on.is ∙ ap grouped (sym (append-nil on.done) ∙ ap (λ (l : List Id). on.done ++ map series l) (sym none) ∙ on.both)
@@ -189,7 +189,7 @@ module _ (stock : Stock) (g : Grouping) where
       go false d ih sum = omega (arith, sum, ih d)
 
   abbrev shown : List Id → List ℕ → Reply
-  shown ns v = group_reply stock g v (having ns v)
+  shown ns v = group_reply db_view g v (having ns v)
 
   -- these groups are to come; they are written after the others, of which none was refused
   pub record AreToCome (ns : List Id) (es : List (List ℕ × List Id)) (start now : List ℕ) (first lost : Bool) (old steps : ℕ) : Type 0 where
@@ -235,9 +235,9 @@ module _ (stock : Stock) (g : Grouping) where
     here = next ns es rest e to_come.left split to_come.entries
 
     -- its series are some of all
-    pub next-numbered : All (IsNumbered stock.ids) ns → All (IsNumbered stock.ids) e.1
+    pub next-numbered : All (IsIdOfOneKey db_view.ids) ns → All (IsIdOfOneKey db_view.ids) e.1
     next-numbered all =
-        subst (All (IsNumbered stock.ids)) (sym here.has) (All-filter (λ n. is_value e.0 (value_of g.by.label (series n).labels)) (IsNumbered stock.ids) ns all)
+        subst (All (IsIdOfOneKey db_view.ids)) (sym here.has) (All-filter (λ n. is_value e.0 (value_of g.by.label (series n).labels)) (IsIdOfOneKey db_view.ids) ns all)
 
     ones-split : sum_by (λ v. ones (having ns v)) (values ns) ≡ ones e.1 + sum_by (λ v. ones (having ns v)) here.others
     ones-split =
@@ -249,23 +249,23 @@ module _ (stock : Stock) (g : Grouping) where
         ap (sum_by (λ v. sum_by most (having ns v))) here.first ∙ sum_by-cons (λ v. sum_by most (having ns v)) e.0 here.others
         ∙ ap (λ (l : List Id). sum_by most l + sum_by (λ v. sum_by most (having ns v)) here.others) (sym here.has)
 
-    pub to-come-next : (after : List ℕ) (later : Bool) (new : ℕ) → list_any long e.1 ≡ false → (later ≡ false → after ≡ now ++ text (group_reply stock g e.0 e.1)) → (later ≡ false → lost ≡ false)
+    pub to-come-next : (after : List ℕ) (later : Bool) (new : ℕ) → list_any long e.1 ≡ false → (later ≡ false → after ≡ now ++ text (group_reply db_view g e.0 e.1)) → (later ≡ false → lost ≡ false)
         → new ≤ steps + sum_by most e.1 → AreToCome ns rest start after first later old new
     to-come-next after later new short adds stay one = record {
       left = here.others;
       entries = here.entries;
       none = omega (arith, ones-split, none-ones e.1 short);
       texts = λ kept. goes-on (shown ns) start now after e.0 to_come.left here.others (values ns) (to_come.texts (stay kept)) here.first
-          (adds kept ∙ ap (λ (l : List Id). now ++ text (group_reply stock g e.0 l)) here.has);
+          (adds kept ∙ ap (λ (l : List Id). now ++ text (group_reply db_view g e.0 l)) here.has);
       stays = λ kept. to_come.stays (stay kept);
       few = omega (arith, to_come.few, steps-split, one);
     }
 
     -- the rows of one series are too many
-    pub to-come-long : list_any long e.1 ≡ true → 1 ≤ refusals stock g ns
+    pub to-come-long : list_any long e.1 ≡ true → 1 ≤ refusals db_view g ns
     to-come-long is = omega (arith, sum-sorted series g.by.label (λ n. one_if (long n)) ns, ones-split, some-ones e.1 is)
 
-    pub to-come-long-few : (new : ℕ) → new ≤ steps + sum_by most e.1 → new ≤ old + numbers_steps stock g ns
+    pub to-come-long-few : (new : ℕ) → new ≤ steps + sum_by most e.1 → new ≤ old + ids_steps db_view g ns
     to-come-long-few new one = omega (arith, sum-sorted series g.by.label most ns, to_come.few, steps-split, one)
 
   none-left : (ns : List Id) (left : List (List ℕ)) → [] ≡ map {B = List ℕ × List Id} (λ v. (v, having ns v)) left → left ≡ []
@@ -277,33 +277,33 @@ module _ (stock : Stock) (g : Grouping) where
     no-more = none-left ns to_come.left (sym none ∙ to_come.entries)
 
     -- all are written
-    pub come-told : refusals stock g ns ≡ 0
+    pub come-told : refusals db_view g ns ≡ 0
     come-told = sym (sum-sorted series g.by.label (λ n. one_if (long n)) ns) ∙ sym to_come.none ∙ ap (sum_by (λ v. ones (having ns v))) no-more
 
     pub come-added : (before : List ℕ) (count : ℕ) (all : List (List ℕ × List Id)) → lost ≡ false → (first ≡ false → start ≡ before ++ line_text 42 (decimal count)) → count ≡ length all → all ≡ by_values_of series g.by.label ns
-        → now ≡ before ++ text (array (groups_of_numbers stock g ns))
+        → now ≡ before ++ text (array (groups_of_ids db_view g ns))
     come-added before count all kept begun many are =
         whole (shown ns) before start now count to_come.left (values ns) (to_come.texts kept) no-more (begun (to_come.stays kept))
         (many ∙ ap length are ∙ length-map (values ns) (λ v. (v, having ns v)))
 
-    pub come-few : steps ≤ old + numbers_steps stock g ns
+    pub come-few : steps ≤ old + ids_steps db_view g ns
     come-few = omega (arith, sum-sorted series g.by.label most ns, to_come.few)
 
   -- ---- where memory was lost before any was written
 
   -- these numbers are left, and of the others none was refused
   pub record AreUnasked (ns rest : List Id) (old steps : ℕ) : Type 0 where
-    pub none : refusals stock g rest ≡ refusals stock g ns
-    pub few : steps + numbers_steps stock g rest ≤ old + numbers_steps stock g ns
+    pub none : refusals db_view g rest ≡ refusals db_view g ns
+    pub few : steps + ids_steps db_view g rest ≤ old + ids_steps db_view g ns
 
   pub unasked-all : (ns : List Id) (old : ℕ) → AreUnasked ns ns old old
   unasked-all ns old = record { none = refl; few = omega arith }
 
   abbrev asked : Id → ℕ
-  asked n = if has_label stock g.by.label (key_with stock.ids n) then one_if (long n) else 0
+  asked n = if has_label db_view g.by.label (key_of_id db_view.ids n) then one_if (long n) else 0
 
   abbrev taken : Id → ℕ
-  taken n = if has_label stock g.by.label (key_with stock.ids n) then most n else 0
+  taken n = if has_label db_view g.by.label (key_of_id db_view.ids n) then most n else 0
 
   refused-ones : (b : Bool) (o : Option Labelled) (r : Bool) → r ≡ is_none (if b then option_map alone o else Some []) → (l : Bool) → is_none o ≡ l → (if b then one_if l else 0) ≡ one_if r
   refused-ones false o r e l d = rw e refl
@@ -311,28 +311,28 @@ module _ (stock : Stock) (g : Grouping) where
   refused-ones true (Some m) r e l d = rw (e, sym d) refl
 
   -- whether a number is refused
-  pub asked-one : (n : Id) (r : Bool) → r ≡ is_group_refused g stock (key_with stock.ids n) → asked n ≡ one_if r
+  pub asked-one : (n : Id) (r : Bool) → r ≡ is_group_refused g db_view (key_of_id db_view.ids n) → asked n ≡ one_if r
   asked-one n r e =
-      refused-ones (has_label stock g.by.label (key_with stock.ids n)) (series_at stock g.latest (query_of g.query) (key_with stock.ids n)) r e (long n)
-      (sym (series-refused stock g.latest (query_of g.query) (key_with stock.ids n)))
+      refused-ones (has_label db_view g.by.label (key_of_id db_view.ids n)) (series_at db_view g.latest (query_of g.query) (key_of_id db_view.ids n)) r e (long n)
+      (sym (series-refused db_view g.latest (query_of g.query) (key_of_id db_view.ids n)))
 
-  module _ (ns rest more : List Id) (n : Id) (old steps new : ℕ) (r : Bool) (split : rest ≡ n ∷ more) (left : AreUnasked ns rest old steps) (is : r ≡ is_group_refused g stock (key_with stock.ids n))
-      (one : new ≤ steps + group_steps g stock (key_with stock.ids n)) where
+  module _ (ns rest more : List Id) (n : Id) (old steps new : ℕ) (r : Bool) (split : rest ≡ n ∷ more) (left : AreUnasked ns rest old steps) (is : r ≡ is_group_refused g db_view (key_of_id db_view.ids n))
+      (one : new ≤ steps + group_steps g db_view (key_of_id db_view.ids n)) where
     pub unasked-less : r ≡ false → AreUnasked ns more old new
     unasked-less short = record {
-      none = omega (arith, left.none, ap (refusals stock g) split, sum_by-cons asked n more, asked-one n r is ∙ ap one_if short);
-      few = omega (arith, left.few, ap (numbers_steps stock g) split, sum_by-cons taken n more, one);
+      none = omega (arith, left.none, ap (refusals db_view g) split, sum_by-cons asked n more, asked-one n r is ∙ ap one_if short);
+      few = omega (arith, left.few, ap (ids_steps db_view g) split, sum_by-cons taken n more, one);
     }
 
-    pub unasked-long : r ≡ true → 1 ≤ refusals stock g ns
-    unasked-long is_long = omega (arith, left.none, ap (refusals stock g) split, sum_by-cons asked n more, asked-one n r is ∙ ap one_if is_long)
+    pub unasked-long : r ≡ true → 1 ≤ refusals db_view g ns
+    unasked-long is_long = omega (arith, left.none, ap (refusals db_view g) split, sum_by-cons asked n more, asked-one n r is ∙ ap one_if is_long)
 
-    pub unasked-few : new ≤ old + numbers_steps stock g ns
-    unasked-few = omega (arith, left.few, ap (numbers_steps stock g) split, sum_by-cons taken n more, one)
+    pub unasked-few : new ≤ old + ids_steps db_view g ns
+    unasked-few = omega (arith, left.few, ap (ids_steps db_view g) split, sum_by-cons taken n more, one)
 
   module _ (ns rest : List Id) (old steps : ℕ) (none : rest ≡ []) (left : AreUnasked ns rest old steps) where
-    pub unasked-none : refusals stock g ns ≡ 0
-    unasked-none = sym left.none ∙ ap (refusals stock g) none
+    pub unasked-none : refusals db_view g ns ≡ 0
+    unasked-none = sym left.none ∙ ap (refusals db_view g) none
 
-    pub unasked-none-few : steps ≤ old + numbers_steps stock g ns
+    pub unasked-none-few : steps ≤ old + ids_steps db_view g ns
     unasked-none-few = omega (arith, left.few)

@@ -11,7 +11,7 @@ use Rattle.ts_sample.specs.Visit.{visited}
 use Rattle.ts_sample.proofs.Between.{filter-filter}
 use Rattle.ts_sample.proofs.Lists.{ascending-left}
 use Rattle.ts_sample.proofs.Parted.{filter_alike}
-use Rattle.ts_range.specs.Walking.{Walking, lets, with_seen, rows_chosen, rows_of_walk}
+use Rattle.ts_range.specs.RowScanState.{RowScanState, lets, with_seen, rows_passing, rows_of_scan}
 use Rattle.ts_range.proofs.Filtered.{length-filter}
 use Rattle.ts_range.proofs.Shown.{seen-visited}
 use Rattle.ts_questions.proofs.Reaching.{parts}
@@ -98,30 +98,30 @@ module _ (lets : Point → Bool) (seen l whole : List Point) where
       (fewer-left lets (λ (p : Point). is_within first last p.time) seen (between from to l) whole (ap (filter lets) part ∙ same) is)
 
   -- one share more was seen, of which a part has all that is let through
-  pub share-more : (first last a z end : ℕ) → IsAscending l → first ≤ a → z ≤ end → first ≤ end → end ≤ last → filter lets (between a z l) ≡ filter lets (between first end l)
+  pub scan_batch-more : (first last a z end : ℕ) → IsAscending l → first ≤ a → z ≤ end → first ≤ end → end ≤ last → filter lets (between a z l) ≡ filter lets (between first end l)
       → IsSoFar lets seen (between first last l) whole → IsSoFar lets (seen ++ between a z l) (between (end + 1) last l) whole
-  share-more first last a z end rises low high le upto same is =
+  scan_batch-more first last a z end rises low high le upto same is =
       let rest = between first last l in
-      let share = between first end l in
+      let scan_batch = between first end l in
       let part = between a z l in
       let after = between (end + 1) last l in
       let test : Point → Bool = λ p. is_kept a z end p.time in
-      let both : rest ≡ share ++ after = split first last end l rises le upto in
+      let both : rest ≡ scan_batch ++ after = split first last end l rises le upto in
       let left : filter test rest ≡ part ++ after =
-      ap (filter test) both ∙ filter-append test share after
+      ap (filter test) both ∙ filter-append test scan_batch after
       ∙ ap (λ (ps : List Point). ps ++ filter test after) (kept-before a z end first l low high)
       ∙ ap (λ (ps : List Point). part ++ ps) (kept-after a z end last l) in
-      let let_through : filter lets (filter test rest) ≡ filter lets rest =
+      let lets_pass : filter lets (filter test rest) ≡ filter lets rest =
       ap (filter lets) left ∙ filter-append lets part after ∙ ap (λ (ps : List Point). ps ++ filter lets after) same
-      ∙ sym (filter-append lets share after) ∙ ap (filter lets) (sym both) in
-      let fewer : IsSoFar lets seen (part ++ after) whole = subst (λ (ps : List Point). IsSoFar lets seen ps whole) left (fewer-left lets test seen rest whole let_through is) in
+      ∙ sym (filter-append lets scan_batch after) ∙ ap (filter lets) (sym both) in
+      let fewer : IsSoFar lets seen (part ++ after) whole = subst (λ (ps : List Point). IsSoFar lets seen ps whole) left (fewer-left lets test seen rest whole lets_pass is) in
       let all : seen ++ (part ++ after) ≡ (seen ++ part) ++ after = sym (append_assoc seen part after) in
       record { rises = subst IsAscending all fewer.rises; few = subst (λ (ps : List Point). length ps ≤ 2 ^ 32) all fewer.few; same = ap (filter lets) (sym all) ∙ fewer.same }
 
   -- the last share was seen
-  pub share-last : (first last a z : ℕ) → first ≤ a → z ≤ last → filter lets (between a z l) ≡ filter lets (between first last l) → IsSoFar lets seen (between first last l) whole
+  pub scan_batch-last : (first last a z : ℕ) → first ≤ a → z ≤ last → filter lets (between a z l) ≡ filter lets (between first last l) → IsSoFar lets seen (between first last l) whole
       → IsSoFar lets (seen ++ between a z l) [] whole
-  share-last first last a z low high same is =
+  scan_batch-last first last a z low high same is =
       let part = in-part first last a z low high same is in
       let all : seen ++ between a z l ≡ (seen ++ between a z l) ++ [] = sym (append-nil (seen ++ between a z l)) in
       record { rises = subst IsAscending all part.rises; few = subst (λ (ps : List Point). length ps ≤ 2 ^ 32) all part.few; same = ap (filter lets) (sym all) ∙ part.same }
@@ -141,50 +141,50 @@ room-left lets seen rest whole is = omega (arith, is.few, length-append seen res
 -- ---- what was handed on
 
 -- a walk that has seen some samples sees more
-pub seen-more : (walk old new : Walking) (ps : List Point) → old ≡ record walk { seen = old.seen } → new ≡ visited with_seen old ps → new ≡ record walk { seen = old.seen ++ ps }
-seen-more walk old new ps same is = is ∙ seen-visited old ps ∙ ap (λ (w : Walking). record w { seen = old.seen ++ ps }) same
+pub seen-more : (walk old new : RowScanState) (ps : List Point) → old ≡ record walk { seen = old.seen } → new ≡ visited with_seen old ps → new ≡ record walk { seen = old.seen ++ ps }
+seen-more walk old new ps same is = is ∙ seen-visited old ps ∙ ap (λ (w : RowScanState). record w { seen = old.seen ++ ps }) same
 
 -- a walk that differs from another in what it has seen alone
-pub seen-alone : (walk new : Walking) (seen : List Point) → new ≡ record walk { seen = seen } → new ≡ record walk { seen = new.seen }
-seen-alone walk new seen is = is ∙ ap (λ (ps : List Point). record walk { seen = ps }) (sym (ap (λ (w : Walking). w.seen) is))
+pub seen-alone : (walk new : RowScanState) (seen : List Point) → new ≡ record walk { seen = seen } → new ≡ record walk { seen = new.seen }
+seen-alone walk new seen is = is ∙ ap (λ (ps : List Point). record walk { seen = ps }) (sym (ap (λ (w : RowScanState). w.seen) is))
 
 -- one share more of the part that is wanted
-module _ (walk old : Walking) (l whole : List Point) (from to first last a z end : ℕ) (same : old ≡ record walk { seen = old.seen })
+module _ (walk old : RowScanState) (l whole : List Point) (from to first last a z end : ℕ) (same : old ≡ record walk { seen = old.seen })
     (so_far : IsSoFar (lets walk) old.seen (between from to l) whole)
     (all : filter (lets old) (between first last l) ≡ filter (lets old) (between from to l)) (low : from ≤ first) (high : last ≤ to)
-    (share : filter (lets old) (between a z l) ≡ filter (lets old) (between first end l)) (begins : first ≤ a) (ends : z ≤ end) where
+    (scan_batch : filter (lets old) (between a z l) ≡ filter (lets old) (between first end l)) (begins : first ≤ a) (ends : z ≤ end) where
   rest-wanted : IsSoFar (lets walk) old.seen (between first last l) whole
   rest-wanted =
       in-part (lets walk) old.seen l whole from to first last low high
-      (subst (λ (w : Walking). filter (lets w) (between first last l) ≡ filter (lets w) (between from to l)) same all) so_far
+      (subst (λ (w : RowScanState). filter (lets w) (between first last l) ≡ filter (lets w) (between from to l)) same all) so_far
 
-  share-wanted : filter (lets walk) (between a z l) ≡ filter (lets walk) (between first end l)
-  share-wanted = subst (λ (w : Walking). filter (lets w) (between a z l) ≡ filter (lets w) (between first end l)) same share
+  scan_batch-wanted : filter (lets walk) (between a z l) ≡ filter (lets walk) (between first end l)
+  scan_batch-wanted = subst (λ (w : RowScanState). filter (lets w) (between a z l) ≡ filter (lets w) (between first end l)) same scan_batch
 
-  pub with-share : IsAscending l → first ≤ end → end ≤ last → IsSoFar (lets walk) (old.seen ++ between a z l) (between (end + 1) last l) whole
-  with-share rises le upto = share-more (lets walk) old.seen l whole first last a z end rises begins ends le upto share-wanted rest-wanted
+  pub with-scan_batch : IsAscending l → first ≤ end → end ≤ last → IsSoFar (lets walk) (old.seen ++ between a z l) (between (end + 1) last l) whole
+  with-scan_batch rises le upto = scan_batch-more (lets walk) old.seen l whole first last a z end rises begins ends le upto scan_batch-wanted rest-wanted
 
   pub with-last : end ≡ last → IsSoFar (lets walk) (old.seen ++ between a z l) [] whole
   with-last at_end =
-      share-last (lets walk) old.seen l whole first last a z begins (omega (arith, at_end, ends))
-      (subst (λ (t : ℕ). filter (lets walk) (between a z l) ≡ filter (lets walk) (between first t l)) at_end share-wanted) rest-wanted
+      scan_batch-last (lets walk) old.seen l whole first last a z begins (omega (arith, at_end, ends))
+      (subst (λ (t : ℕ). filter (lets walk) (between a z l) ≡ filter (lets walk) (between first t l)) at_end scan_batch-wanted) rest-wanted
 
-module _ (has : List Row → Type 0) (walk end : Walking) (seen whole asked : List Point) (is : end ≡ record walk { seen = seen }) where
+module _ (has : List Row → Type 0) (walk end : RowScanState) (seen whole asked : List Point) (is : end ≡ record walk { seen = seen }) where
   seen-is : end.seen ≡ seen
-  seen-is = ap (λ (w : Walking). w.seen) is
+  seen-is = ap (λ (w : RowScanState). w.seen) is
 
   -- the rows of the whole were handed on by a walk that has seen all of it
-  pub rows-of-all : (IsAscending end.seen → has (rows_of_walk end asked)) → IsSoFar (lets walk) seen [] whole → has (rows_chosen walk.buckets asked (filter (lets walk) whole))
+  pub rows-of-all : (IsAscending end.seen → has (rows_of_scan end asked)) → IsSoFar (lets walk) seen [] whole → has (rows_passing walk.buckets asked (filter (lets walk) whole))
   rows-of-all told so_far =
       let all : seen ++ [] ≡ seen = append-nil seen in
       let rises : IsAscending end.seen = subst IsAscending (sym seen-is) (subst IsAscending all so_far.rises) in
-      subst (λ (ps : List Point). has (rows_chosen walk.buckets asked ps)) (ap (filter (lets walk)) (sym all) ∙ so_far.same)
-      (subst (λ (w : Walking). has (rows_of_walk w asked)) is (told rises))
+      subst (λ (ps : List Point). has (rows_passing walk.buckets asked ps)) (ap (filter (lets walk)) (sym all) ∙ so_far.same)
+      (subst (λ (w : RowScanState). has (rows_of_scan w asked)) is (told rises))
 
   -- and by one to which the rest is nothing
-  pub rows-of-enough : (rest : List Point) → ((more : List Point) → IsAscending (end.seen ++ more) → has (rows_of_walk (record end { seen = end.seen ++ more }) asked))
-      → IsSoFar (lets walk) seen rest whole → has (rows_chosen walk.buckets asked (filter (lets walk) whole))
+  pub rows-of-enough : (rest : List Point) → ((more : List Point) → IsAscending (end.seen ++ more) → has (rows_of_scan (record end { seen = end.seen ++ more }) asked))
+      → IsSoFar (lets walk) seen rest whole → has (rows_passing walk.buckets asked (filter (lets walk) whole))
   rows-of-enough rest told so_far =
-      subst (λ (ps : List Point). has (rows_chosen walk.buckets asked ps)) so_far.same
-      (subst (λ (w : Walking). has (rows_of_walk (record w { seen = w.seen ++ rest }) asked)) is
+      subst (λ (ps : List Point). has (rows_passing walk.buckets asked ps)) so_far.same
+      (subst (λ (w : RowScanState). has (rows_of_scan (record w { seen = w.seen ++ rest }) asked)) is
       (told rest (subst (λ (ps : List Point). IsAscending (ps ++ rest)) (sym seen-is) so_far.rises)))

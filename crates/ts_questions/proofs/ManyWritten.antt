@@ -2,19 +2,19 @@
 use Rattle.std.proofs.Common.{◌≡◌, ℕ, Bool, true, false, List, inl, inr, sym, subst}
 use Rattle.std.specs.Prelude.{Option, None, Some, is_none, Result, Ok, Err, IfOk}
 use Rattle.ts_spec.specs.Answer.{Row}
-use Rattle.ts_spec.specs.Questions.{rows_response}
+use Rattle.ts_spec.specs.Queries.{rows_response}
 use Rattle.ts_spec.specs.Replies.{reply_to}
 use Rattle.ts_spec.specs.Response.{Response}
 use Rattle.ts_spec.specs.Text.{text}
 use Rattle.ts_questions.specs.Answering.{IsReplyText, IsManyText, lost_reply}
 
-module _ (response : Response) (written : List ℕ) (is_too_much : Bool) where
+module _ (response : Response) (written : List ℕ) (is_over_limit : Bool) where
   -- it is told
-  pub written-told : is_too_much ≡ false → written ≡ text (reply_to response) → IsManyText is_too_much response written
+  pub written-told : is_over_limit ≡ false → written ≡ text (reply_to response) → IsManyText is_over_limit response written
   written-told few is = subst (λ (b : Bool). IsManyText b response written) (sym few) (inl is)
 
   -- it is not
-  pub written-lost : (b : Bool) → b ≡ is_too_much → written ≡ text (lost_reply b) → IsManyText is_too_much response written
+  pub written-lost : (b : Bool) → b ≡ is_over_limit → written ≡ text (lost_reply b) → IsManyText is_over_limit response written
   written-lost b same is = subst (λ (b : Bool). IsManyText b response written) same (go b is)
     where
       go : (b : Bool) → written ≡ text (lost_reply b) → IsManyText b response written

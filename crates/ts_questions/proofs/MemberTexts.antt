@@ -7,9 +7,9 @@ use Rattle.ts_spec.specs.Answer.{Row, answer}
 use Rattle.ts_spec.specs.Command as command
 use Rattle.ts_spec.specs.Key.{Key}
 use Rattle.ts_spec.specs.Keyed.{get}
-use Rattle.ts_spec.specs.Kept.{Keeping}
-use Rattle.ts_spec.specs.KeptQuestions.{kept_asked, kept_labels_at, kept_member}
-use Rattle.ts_spec.specs.Questions.{labels_shown}
+use Rattle.ts_spec.specs.StoredSeries.{StoredKeys}
+use Rattle.ts_spec.specs.StoredQueries.{stored_asked, stored_labels_at, stored_member}
+use Rattle.ts_spec.specs.Queries.{labels_shown}
 use Rattle.ts_spec.specs.Replies.{member_reply}
 use Rattle.ts_spec.specs.Response.{Member}
 use Rattle.ts_spec.specs.State.{Label}
@@ -31,26 +31,26 @@ memory-fault (Ok done) x Q is told = subst (λ (y : Result (Unit {0}) RangeFault
 memory-fault (Err fault) x Q is told = subst (λ (y : Result (Unit {0}) RangeFault). IfErr y (λ fault. Q (is_too_many fault))) (sym is) told
 
 -- the member that a key and labels make is that of what is kept
-pub member-told : (m : Keeping) (show : Show) (key k : Key) (labels : List Label) (rows : List Row) → k ≡ key → labels ≡ kept_labels_at (get key m)
-    → member_with show k labels rows ≡ kept_member m (show_of show) key rows
+pub member-told : (m : StoredKeys) (show : Show) (key k : Key) (labels : List Label) (rows : List Row) → k ≡ key → labels ≡ stored_labels_at (get key m)
+    → member_with show k labels rows ≡ stored_member m (show_of show) key rows
 member-told m show key k labels rows name own = λ i. record { key = name i; labels = labels_shown (show_of show) (own i); rows = rows }
 
-module _ (limits : Limits) (m : Keeping) (latest : Bool) (show : command.Show) (q : command.Query) (key : Key) where
+module _ (limits : Limits) (m : StoredKeys) (latest : Bool) (show : command.Show) (q : command.Query) (key : Key) where
   -- its rows are told
-  pub rows-added : (rows : List Row) (member : Member) (before after : List ℕ) → answer limits.empty_rows q (kept_asked m latest key) ≡ Some rows → member ≡ kept_member m show key rows
+  pub rows-added : (rows : List Row) (member : Member) (before after : List ℕ) → answer limits.empty_rows q (stored_asked m latest key) ≡ Some rows → member ≡ stored_member m show key rows
       → after ≡ before ++ text (member_reply member) → IsAdded text (rows_at limits m latest show q key) before after
   rows-added rows member before after answered is added =
-      subst (λ (o : Option (List Row)). IsAdded text (option_map (λ rows. member_reply (kept_member m show key rows)) o) before after) (sym answered)
+      subst (λ (o : Option (List Row)). IsAdded text (option_map (λ rows. member_reply (stored_member m show key rows)) o) before after) (sym answered)
       (added ∙ ap (λ (x : Member). before ++ text (member_reply x)) is)
 
   -- they are not
-  pub rows-some : (rows : List Row) → answer limits.empty_rows q (kept_asked m latest key) ≡ Some rows → is_none (rows_at limits m latest show q key) ≡ false
-  rows-some rows answered = ap (λ (o : Option (List Row)). is_none (option_map (λ rows. member_reply (kept_member m show key rows)) o)) answered
+  pub rows-some : (rows : List Row) → answer limits.empty_rows q (stored_asked m latest key) ≡ Some rows → is_none (rows_at limits m latest show q key) ≡ false
+  rows-some rows answered = ap (λ (o : Option (List Row)). is_none (option_map (λ rows. member_reply (stored_member m show key rows)) o)) answered
 
   -- there is no member exactly where they are
-  pub rows-refused : is_none (answer limits.empty_rows q (kept_asked m latest key)) ≡ is_none (rows_at limits m latest show q key)
-  rows-refused = go (answer limits.empty_rows q (kept_asked m latest key))
+  pub rows-refused : is_none (answer limits.empty_rows q (stored_asked m latest key)) ≡ is_none (rows_at limits m latest show q key)
+  rows-refused = go (answer limits.empty_rows q (stored_asked m latest key))
     where
-      go : (o : Option (List Row)) → is_none o ≡ is_none (option_map (λ rows. member_reply (kept_member m show key rows)) o)
+      go : (o : Option (List Row)) → is_none o ≡ is_none (option_map (λ rows. member_reply (stored_member m show key rows)) o)
       go None = refl
       go (Some rows) = refl

@@ -3,7 +3,7 @@ use Rattle.std.proofs.Common.{◌≡◌, ℕ, ◌≤◌, ◌⊎◌, inl, inr, Bo
 use Rattle.std.specs.Prelude.{nat_lt, reverse, Option, None, Some}
 use Rattle.std.proofs.lemmas.Bool.Decides.{nat_tests}
 use Rattle.std.proofs.lemmas.List.{length-map, length-reverse, map-append, reverse-append, take-append-le}
-use Rattle.ts_spec.specs.Answer.{row_of, is_let_through, lets_time, lets_value, rows, rows_of, turned, first_ones}
+use Rattle.ts_spec.specs.Answer.{row_of, passes_filters, passes_time_filter, passes_value_filter, rows, rows_of, in_requested_order, limit_rows}
 use Rattle.ts_spec.specs.Command.{Query, Buckets, Span}
 use Rattle.ts_spec.specs.Sample.{Point, IsAscending, at_times, is_within, between}
 use Rattle.ts_spec.proofs.Samples.{ascending-times}
@@ -29,17 +29,17 @@ parts from to t l rises on =
 
 module _ (q : Query) (l : List Point) (times : q.times ≡ None) (values : q.values ≡ None) (buckets : q.buckets ≡ None) (backward : q.reverse ≡ true)
     (n : ℕ) (count : q.count ≡ Some n) where
-  lets : (p : Point) → is_let_through q p ≡ true
+  lets : (p : Point) → passes_filters q p ≡ true
   lets p =
-      ap (λ (o : Option (List ℕ)). lets_time o p.time && lets_value q.values p.value) times
-      ∙ ap (λ (o : Option Span). true && lets_value o p.value) values
+      ap (λ (o : Option (List ℕ)). passes_time_filter o p.time && passes_value_filter q.values p.value) times
+      ∙ ap (λ (o : Option Span). true && passes_value_filter o p.value) values
 
   pub plain : (x : ℕ) → rows (record q { from = x }) l ≡ take n (reverse (map row_of (between x q.to l)))
   plain x =
-      ap (λ (c : Option ℕ). first_ones c (turned q.reverse (rows_of q.buckets (record q { from = x }) l))) count
-      ∙ ap (λ (r : Bool). take n (turned r (rows_of q.buckets (record q { from = x }) l))) backward
+      ap (λ (c : Option ℕ). limit_rows c (in_requested_order q.reverse (rows_of q.buckets (record q { from = x }) l))) count
+      ∙ ap (λ (r : Bool). take n (in_requested_order r (rows_of q.buckets (record q { from = x }) l))) backward
       ∙ ap (λ (o : Option Buckets). take n (reverse (rows_of o (record q { from = x }) l))) buckets
-      ∙ ap (λ (ps : List Point). take n (reverse (map row_of ps))) (filter-all (is_let_through q) (between x q.to l) (λ k d within. lets (get_or (between x q.to l) k d)))
+      ∙ ap (λ (ps : List Point). take n (reverse (map row_of ps))) (filter-all (passes_filters q) (between x q.to l) (λ k d within. lets (get_or (between x q.to l) k d)))
 
   -- so many of them are enough
   pub rows-from : IsAscending l → (t : ℕ) → q.from ≤ t → (t ≡ q.from) ⊎ (n ≤ length (between t q.to l)) → rows (record q { from = t }) l ≡ rows q l

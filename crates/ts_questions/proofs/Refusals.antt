@@ -9,7 +9,7 @@ use Rattle.ts_spec.specs.State.{Record}
 use Rattle.ts_spec.specs.Text.{Error, text}
 use Rattle.ts_sample.specs.declared.sample.Id.{Id}
 use Rattle.ts_db.specs.Faults.{refusal_of, IsRefusal, IsMemory}
-use Rattle.ts_db.specs.Held.{Finds, YieldsToMemory}
+use Rattle.ts_db.specs.DbState.{Finds, AllowsOutOfMemory}
 use Rattle.ts_db.specs.declared.fault.DbFault.{DbFault}
 use Rattle.ts_db.specs.declared.fault.DbFault.TheVariants.{KeyExists, NoKey, KeysFull, LabelsFull, TooOld, Duplicate, OutOfRange, BeforeLast, SamplesFull, DeleteBeyondRetention, SameKey, SourceIsDest, DestIsSource, DestHasSource, RulesSpent, RulesFull, NoRule, Memory}
 use Rattle.ts_questions.specs.Answering.{message_of, IsReplyText}
@@ -56,7 +56,7 @@ is_lost ids (Memory e) is = refl
 
 -- a question that finds nothing is told that there is no such key, or no memory
 pub missing_key_response : {T : Type 0} (response : Option Record → Response) (o : Option Record) (what : T → Type 0) (fault : DbFault) (ids : Keyed Id) (written : List ℕ) → response None ≡ Refused refusal.NoKey
-    → ((d : Record) → YieldsToMemory (response (Some d))) → Finds o what (Err fault) → written ≡ text (Error (message_of (refusal_of ids fault))) → IsReplyText (response o) written
+    → ((d : Record) → AllowsOutOfMemory (response (Some d))) → Finds o what (Err fault) → written ≡ text (Error (message_of (refusal_of ids fault))) → IsReplyText (response o) written
 missing_key_response response None what fault ids written none yields finds is =
     inl (is ∙ ap (λ (f : DbFault). text (Error (message_of (refusal_of ids f)))) finds ∙ ap (λ (r : Response). text (reply_to r)) (sym none))
 missing_key_response response (Some d) what fault ids written none yields finds is = inr (yields d, is ∙ ap (λ (o : Option refusal.Refusal). text (Error (message_of o))) (is_lost ids fault finds))

@@ -8,7 +8,7 @@ use Rattle.std.proofs.lemmas.List.{length-take, map-append, reverse-append, take
 use Rattle.std.proofs.lemmas.List.Elements.{All-filter, All-weaker, filter_passes, filter-append}
 use Rattle.ts_sample.proofs.Between.{filter-filter}
 use Rattle.ts_sample.proofs.Parted.{filter_alike}
-use Rattle.ts_spec.specs.Answer.{Row, row_of, is_let_through}
+use Rattle.ts_spec.specs.Answer.{Row, row_of, passes_filters}
 use Rattle.ts_spec.specs.Bucket.{Grid, start}
 use Rattle.ts_spec.specs.Command.{Buckets}
 use Rattle.ts_spec.specs.Sample.{Point, IsAscending, at_times, is_within, between}
@@ -16,7 +16,7 @@ use Rattle.ts_spec.proofs.Buckets.{start-le, start-order, start-start}
 use Rattle.ts_range.specs.declared.query.Buckets.{Buckets as Asked}
 use Rattle.ts_range.specs.declared.query.Query.{Query}
 use Rattle.ts_range.specs.Query.{buckets_of, query_of}
-use Rattle.ts_range.specs.Walking.{rows_chosen}
+use Rattle.ts_range.specs.RowScanState.{rows_passing}
 use Rattle.ts_range.proofs.Groups.{rows-append}
 use Rattle.ts_questions.specs.Asking.{rows_in}
 use Rattle.ts_questions.proofs.ReachingBack.{parts}
@@ -32,7 +32,7 @@ from-start g t u same is = let on : t ≤ u = grind (arith, nat_tests) in omega 
 -- samples before a start of a bucket, and those from it on
 rows-parted : (o : Option Buckets) (asked early late : List Point) (t : ℕ) → ForSome o (λ bs. (0 < bs.grid.duration) × (start bs.grid t ≡ t))
     → All (λ p. nat_lt p.time t ≡ true) early → All (λ p. not (nat_lt p.time t) ≡ true) late
-    → rows_chosen o asked (early ++ late) ≡ rows_chosen o asked early ++ rows_chosen o asked late
+    → rows_passing o asked (early ++ late) ≡ rows_passing o asked early ++ rows_passing o asked late
 rows-parted None asked early late t starts below above = map-append row_of early late
 rows-parted (Some bs) asked early late t starts below above =
     let at = starts bs refl in
@@ -48,7 +48,7 @@ within-from t to u is = grind (arith, nat_tests)
 
 -- the rows of an interval, where a bucket begins in it
 pub rows-split : (o : Option Buckets) (lets : Point → Bool) (from to t : ℕ) (l : List Point) → IsAscending l → from < t → t ≤ to → ForSome o (λ bs. (0 < bs.grid.duration) × (start bs.grid t ≡ t))
-    → rows_chosen o l (filter lets (between from to l)) ≡ rows_chosen o l (filter lets (between from (t - 1) l)) ++ rows_chosen o l (filter lets (between t to l))
+    → rows_passing o l (filter lets (between from to l)) ≡ rows_passing o l (filter lets (between from (t - 1) l)) ++ rows_passing o l (filter lets (between t to l))
 rows-split o lets from to t l rises less le starts =
     let front = at_times (λ u. nat_lt u t) (between from to l) in
     let same : front ≡ between from (t - 1) l =
@@ -56,13 +56,13 @@ rows-split o lets from to t l rises less le starts =
     ∙ filter_alike (λ (p : Point). is_within from to p.time && nat_lt p.time t) (λ (p : Point). is_within from (t - 1) p.time) (λ p. upto-before from to t p.time less le) l in
     let early = filter lets front in
     let late = filter lets (between t to l) in
-    ap (λ (ps : List Point). rows_chosen o l (filter lets ps)) (parts from to t l rises (omega arith))
-    ∙ ap (rows_chosen o l) (filter-append lets front (between t to l))
+    ap (λ (ps : List Point). rows_passing o l (filter lets ps)) (parts from to t l rises (omega arith))
+    ∙ ap (rows_passing o l) (filter-append lets front (between t to l))
     ∙ rows-parted o l early late t starts
     (All-filter lets (λ p. nat_lt p.time t ≡ true) front (filter_passes (λ (p : Point). nat_lt p.time t) (between from to l)))
     (All-filter lets (λ p. not (nat_lt p.time t) ≡ true) (between t to l)
     (All-weaker (λ p. is_within t to p.time ≡ true) (λ p. not (nat_lt p.time t) ≡ true) (λ p is. within-from t to p.time is) (between t to l) (filter_passes (λ (p : Point). is_within t to p.time) l)))
-    ∙ ap (λ (ps : List Point). rows_chosen o l (filter lets ps) ++ rows_chosen o l late) same
+    ∙ ap (λ (ps : List Point). rows_passing o l (filter lets ps) ++ rows_passing o l late) same
 
 -- a bucket begins at a time, where there are buckets
 abbrev pub Begins : Query → ℕ → Type 0
@@ -94,7 +94,7 @@ begins-at q asked from t u has some is = go (either from (start asked.grid u))
     go (inr le) = inl (omega (arith, is))
 
 pub in-parts : (q : Query) (l : List Point) → IsAscending l → (from to t : ℕ) → from < t → t ≤ to → Begins q t → rows_in q l from to ≡ rows_in q l from (t - 1) ++ rows_in q l t to
-in-parts q l rises from to t less le begins = rows-split (option_map buckets_of q.buckets) (is_let_through (query_of q)) from to t l rises less le (begins-of q.buckets t begins)
+in-parts q l rises from to t less le begins = rows-split (option_map buckets_of q.buckets) (passes_filters (query_of q)) from to t l rises less le (begins-of q.buckets t begins)
 
 -- there are none before an interval begins
 outside : (from to t : ℕ) → to < from → is_within from to t ≡ false
@@ -105,9 +105,9 @@ none-within from to [] less = refl
 none-within from to (p ∷ ps) less = ap (λ (b : Bool). cond b (p ∷ between from to ps) (between from to ps)) (outside from to p.time less) ∙ none-within from to ps less
 
 pub in-none : (q : Query) (l : List Point) (from to : ℕ) → to < from → rows_in q l from to ≡ []
-in-none q l from to less = ap (λ (ps : List Point). rows_chosen (option_map buckets_of q.buckets) l (filter (is_let_through (query_of q)) ps)) (none-within from to l less) ∙ no-rows (option_map buckets_of q.buckets)
+in-none q l from to less = ap (λ (ps : List Point). rows_passing (option_map buckets_of q.buckets) l (filter (passes_filters (query_of q)) ps)) (none-within from to l less) ∙ no-rows (option_map buckets_of q.buckets)
   where
-    no-rows : (o : Option Buckets) → rows_chosen o l [] ≡ []
+    no-rows : (o : Option Buckets) → rows_passing o l [] ≡ []
     no-rows None = refl
     no-rows (Some bs) = refl
 

@@ -9,18 +9,18 @@ use Rattle.std.specs.Prelude.{◌&&◌, ◌||◌, sum_by, if◌then◌else◌, S
 use Rattle.ts_spec.specs.Filter.{Filter, all_hold}
 use Rattle.ts_spec.specs.Key.{Key}
 use Rattle.ts_spec.specs.Keyed.{Keyed, get}
-use Rattle.ts_spec.specs.KeptQuestions.{kept_labels_at, kept_selection}
+use Rattle.ts_spec.specs.StoredQueries.{stored_labels_at, stored_selection}
 use Rattle.ts_sample.specs.declared.sample.Id.{Id}
 use Rattle.ts_db.specs.Bounds.{fewest, selection_steps}
 use Rattle.ts_db.specs.Candidates.{passing, Covers}
-use Rattle.ts_db.specs.Held.{Stock, IsLive, AreNumbersOf}
+use Rattle.ts_db.specs.DbState.{DbView, IsLive, AreIdsOf}
 
 -- numbers of keys have keys
-keys-of : (ids : Keyed Id) (ns : List Id) → AllByRecursion (IsLive ids) ns → (keys : List Key) × AreNumbersOf ids keys ns
+keys-of : (ids : Keyed Id) (ns : List Id) → AllByRecursion (IsLive ids) ns → (keys : List Key) × AreIdsOf ids keys ns
 keys-of ids [] live = ([], tt)
 keys-of ids (n ∷ ns) live = let rest = keys-of ids ns live.1 in (live.0.key ∷ rest.0, (live.0.is, rest.1))
 
-as-many : (ids : Keyed Id) (keys : List Key) (ns : List Id) → AreNumbersOf ids keys ns → length keys ≡ length ns
+as-many : (ids : Keyed Id) (keys : List Key) (ns : List Id) → AreIdsOf ids keys ns → length keys ≡ length ns
 as-many ids [] [] are = refl
 as-many ids [] (n ∷ ns) are = absurd are
 as-many ids (k ∷ ks) [] are = absurd are
@@ -51,93 +51,93 @@ spend : (most : Key → ℕ) (b : Bool) (k : Key) (ks : List Key) (filters left 
 spend most false k ks filters left now new all few one = omega (arith, mul-suc filters left, few, one)
 spend most true k ks filters left now new all few one = omega (arith, mul-suc filters left, sum_by-cons most k ks, few, one)
 
-module _ (too_much : Key → Bool) (most : Key → ℕ) (stock : Stock) (fs : List Filter) where
+module _ (too_much : Key → Bool) (most : Key → ℕ) (db_view : DbView) (fs : List Filter) where
   -- what the search over these keys takes at most
   abbrev search_steps : List Key → ℕ
-  search_steps ks = length fs * length ks + sum_by most (passing stock.keys fs ks)
+  search_steps ks = length fs * length ks + sum_by most (passing db_view.keys fs ks)
 
   abbrev all_steps : ℕ
-  all_steps = selection_steps stock fs + sum_by most (kept_selection stock.keys fs)
+  all_steps = selection_steps db_view fs + sum_by most (stored_selection db_view.keys fs)
 
   -- whether there is nothing to tell of one of those that pass
   abbrev is_one_refused : List Key → Bool
-  is_one_refused ks = list_any too_much (passing stock.keys fs ks)
+  is_one_refused ks = list_any too_much (passing db_view.keys fs ks)
 
   -- of the keys that are done there is something to tell
   pub record Searching (rest : List Id) (old now : ℕ) : Type 0 where
     pub left : List Key
-    pub numbers : AreNumbersOf stock.ids left rest
-    pub alike : is_one_refused left ≡ list_any too_much (kept_selection stock.keys fs)
+    pub numbers : AreIdsOf db_view.ids left rest
+    pub alike : is_one_refused left ≡ list_any too_much (stored_selection db_view.keys fs)
     pub few : now + search_steps left ≤ old + all_steps
 
-  begun : (ns : List Id) (now : ℕ) → All (IsLive stock.ids) ns → Covers stock fs ns → length ns ≤ fewest stock fs → Searching ns now now
+  begun : (ns : List Id) (now : ℕ) → All (IsLive db_view.ids) ns → Covers db_view fs ns → length ns ≤ fewest db_view fs → Searching ns now now
   begun ns now live covers few =
-      let of = keys-of stock.ids ns (recursion_from_All (IsLive stock.ids) ns live) in
+      let of = keys-of db_view.ids ns (recursion_from_All (IsLive db_view.ids) ns live) in
       let moved = covers of.0 of.1 in
-      let sums : sum_by most (passing stock.keys fs of.0) ≡ sum_by most (kept_selection stock.keys fs) = sum_by-IsPermutation most (kept_selection stock.keys fs) (passing stock.keys fs of.0) moved in
-      let many : length of.0 ≡ length ns = as-many stock.ids of.0 ns of.1 in
-      let steps : length fs * length of.0 ≤ length fs * fewest stock fs = more-steps (length fs) (length of.0) (fewest stock fs) (omega (arith, many, few)) in
+      let sums : sum_by most (passing db_view.keys fs of.0) ≡ sum_by most (stored_selection db_view.keys fs) = sum_by-IsPermutation most (stored_selection db_view.keys fs) (passing db_view.keys fs of.0) moved in
+      let many : length of.0 ≡ length ns = as-many db_view.ids of.0 ns of.1 in
+      let steps : length fs * length of.0 ≤ length fs * fewest db_view fs = more-steps (length fs) (length of.0) (fewest db_view fs) (omega (arith, many, few)) in
       record {
         left = of.0;
         numbers = of.1;
-        alike = sym (list_any-IsPermutation too_much (kept_selection stock.keys fs) (passing stock.keys fs of.0) moved);
+        alike = sym (list_any-IsPermutation too_much (stored_selection db_view.keys fs) (passing db_view.keys fs of.0) moved);
         few = omega (arith, sums, steps);
       }
 
-  pub search-begun : (lent ns : List Id) (now : ℕ) → ns ≡ lent → All (IsLive stock.ids) lent → Covers stock fs lent → length lent ≤ fewest stock fs → Searching ns now now
+  pub search-begun : (lent ns : List Id) (now : ℕ) → ns ≡ lent → All (IsLive db_view.ids) lent → Covers db_view fs lent → length lent ≤ fewest db_view fs → Searching ns now now
   search-begun lent ns now same live covers few = subst (λ (l : List Id). Searching l now now) (sym same) (begun lent now live covers few)
 
   -- what was found out of a key, by its number
   pub record Tried (id : Id) (now new : ℕ) (refused : Bool) : Type 0 where
-    pub is : (key : Key) → get key stock.ids ≡ Some id → refused ≡ (all_hold fs (kept_labels_at (get key stock.keys)) && too_much key)
-    pub steps : (key : Key) → get key stock.ids ≡ Some id → new ≤ now + (length fs + (if all_hold fs (kept_labels_at (get key stock.keys)) then most key else 0))
+    pub is : (key : Key) → get key db_view.ids ≡ Some id → refused ≡ (all_hold fs (stored_labels_at (get key db_view.keys)) && too_much key)
+    pub steps : (key : Key) → get key db_view.ids ≡ Some id → new ≤ now + (length fs + (if all_hold fs (stored_labels_at (get key db_view.keys)) then most key else 0))
 
   module _ (n : Id) (rest more : List Id) (old now : ℕ) (split : rest ≡ n ∷ more) (so_far : Searching rest old now) where
-    pub search-live : IsLive stock.ids n
-    search-live = pick so_far.left (subst (AreNumbersOf stock.ids so_far.left) split so_far.numbers)
+    pub search-live : IsLive db_view.ids n
+    search-live = pick so_far.left (subst (AreIdsOf db_view.ids so_far.left) split so_far.numbers)
       where
-        pick : (left : List Key) → AreNumbersOf stock.ids left (n ∷ more) → IsLive stock.ids n
+        pick : (left : List Key) → AreIdsOf db_view.ids left (n ∷ more) → IsLive db_view.ids n
         pick [] are = absurd are
         pick (k ∷ ks) are = record { key = k; is = are.0 }
 
     module _ (new : ℕ) (refused : Bool) (tried : Tried n now new refused) where
-      spent : (k : Key) (ks : List Key) → get k stock.ids ≡ Some n → now + search_steps (k ∷ ks) ≤ old + all_steps → new + search_steps ks ≤ old + all_steps
-      spent k ks at few = spend most (all_hold fs (kept_labels_at (get k stock.keys))) k (passing stock.keys fs ks) (length fs) (length ks) now new (old + all_steps) few (tried.steps k at)
+      spent : (k : Key) (ks : List Key) → get k db_view.ids ≡ Some n → now + search_steps (k ∷ ks) ≤ old + all_steps → new + search_steps ks ≤ old + all_steps
+      spent k ks at few = spend most (all_hold fs (stored_labels_at (get k db_view.keys))) k (passing db_view.keys fs ks) (length fs) (length ks) now new (old + all_steps) few (tried.steps k at)
 
       -- there is something to tell of it, or it is not selected
       pub search-more : refused ≡ false → Searching more old new
-      search-more told = pick so_far.left (subst (AreNumbersOf stock.ids so_far.left) split so_far.numbers) so_far.alike so_far.few
+      search-more told = pick so_far.left (subst (AreIdsOf db_view.ids so_far.left) split so_far.numbers) so_far.alike so_far.few
         where
-          pick : (left : List Key) → AreNumbersOf stock.ids left (n ∷ more) → is_one_refused left ≡ list_any too_much (kept_selection stock.keys fs)
+          pick : (left : List Key) → AreIdsOf db_view.ids left (n ∷ more) → is_one_refused left ≡ list_any too_much (stored_selection db_view.keys fs)
               → now + search_steps left ≤ old + all_steps → Searching more old new
           pick [] are like few = absurd are
           pick (k ∷ ks) are like few = record {
             left = ks;
             numbers = are.1;
-            alike = sym (skip too_much (all_hold fs (kept_labels_at (get k stock.keys))) k (passing stock.keys fs ks) (sym (tried.is k are.0) ∙ told)) ∙ like;
+            alike = sym (skip too_much (all_hold fs (stored_labels_at (get k db_view.keys))) k (passing db_view.keys fs ks) (sym (tried.is k are.0) ∙ told)) ∙ like;
             few = spent k ks are.0 few;
           }
 
       -- there is nothing to tell of it
-      pub search-found : refused ≡ true → list_any too_much (kept_selection stock.keys fs) ≡ true
-      search-found none = pick so_far.left (subst (AreNumbersOf stock.ids so_far.left) split so_far.numbers) so_far.alike
+      pub search-found : refused ≡ true → list_any too_much (stored_selection db_view.keys fs) ≡ true
+      search-found none = pick so_far.left (subst (AreIdsOf db_view.ids so_far.left) split so_far.numbers) so_far.alike
         where
-          pick : (left : List Key) → AreNumbersOf stock.ids left (n ∷ more) → is_one_refused left ≡ list_any too_much (kept_selection stock.keys fs) → list_any too_much (kept_selection stock.keys fs) ≡ true
+          pick : (left : List Key) → AreIdsOf db_view.ids left (n ∷ more) → is_one_refused left ≡ list_any too_much (stored_selection db_view.keys fs) → list_any too_much (stored_selection db_view.keys fs) ≡ true
           pick [] are like = absurd are
-          pick (k ∷ ks) are like = sym like ∙ stop too_much (all_hold fs (kept_labels_at (get k stock.keys))) k (passing stock.keys fs ks) (sym (tried.is k are.0) ∙ none)
+          pick (k ∷ ks) are like = sym like ∙ stop too_much (all_hold fs (stored_labels_at (get k db_view.keys))) k (passing db_view.keys fs ks) (sym (tried.is k are.0) ∙ none)
 
       pub search-few : new ≤ old + all_steps
-      search-few = pick so_far.left (subst (AreNumbersOf stock.ids so_far.left) split so_far.numbers) so_far.few
+      search-few = pick so_far.left (subst (AreIdsOf db_view.ids so_far.left) split so_far.numbers) so_far.few
         where
-          pick : (left : List Key) → AreNumbersOf stock.ids left (n ∷ more) → now + search_steps left ≤ old + all_steps → new ≤ old + all_steps
+          pick : (left : List Key) → AreIdsOf db_view.ids left (n ∷ more) → now + search_steps left ≤ old + all_steps → new ≤ old + all_steps
           pick [] are few = absurd are
           pick (k ∷ ks) are few = let all = spent k ks are.0 few in omega (arith, all)
 
   -- at the end of the search
-  pub search-none : (rest : List Id) (old now : ℕ) → rest ≡ [] → Searching rest old now → list_any too_much (kept_selection stock.keys fs) ≡ false
-  search-none rest old now none so_far = pick so_far.left (subst (AreNumbersOf stock.ids so_far.left) none so_far.numbers) so_far.alike
+  pub search-none : (rest : List Id) (old now : ℕ) → rest ≡ [] → Searching rest old now → list_any too_much (stored_selection db_view.keys fs) ≡ false
+  search-none rest old now none so_far = pick so_far.left (subst (AreIdsOf db_view.ids so_far.left) none so_far.numbers) so_far.alike
     where
-      pick : (left : List Key) → AreNumbersOf stock.ids left [] → is_one_refused left ≡ list_any too_much (kept_selection stock.keys fs) → list_any too_much (kept_selection stock.keys fs) ≡ false
+      pick : (left : List Key) → AreIdsOf db_view.ids left [] → is_one_refused left ≡ list_any too_much (stored_selection db_view.keys fs) → list_any too_much (stored_selection db_view.keys fs) ≡ false
       pick [] are like = sym like
       pick (k ∷ ks) are like = absurd are
 

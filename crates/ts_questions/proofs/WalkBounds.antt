@@ -5,8 +5,8 @@ use Rattle.std.proofs.lemmas.Bool.Decides.{nat_tests}
 use Rattle.ts_spec.specs.Sample.{Point, at_times, is_within, between}
 use Rattle.ts_sample.specs.Chunk.{joined}
 use Rattle.ts_range.specs.declared.query.Query.{Query}
-use Rattle.ts_range.specs.declared.stretch.Stretch.{Stretch}
-use Rattle.ts_range.specs.Stretches.{IsStretchIn}
+use Rattle.ts_range.specs.declared.bucket_range.BucketRange.{BucketRange}
+use Rattle.ts_range.specs.BucketRanges.{IsBucketRangeIn}
 use Rattle.ts_series.specs.Seams.{IsSeam, IsSeamed, Around}
 
 -- ---- how many samples there are
@@ -161,8 +161,8 @@ module _ (pieces : List (List Point)) (n from to : ℕ) where
     pub goes-more : (start mid : ℕ) → Around (suc (start - 1)) (start - 1) n pieces → from < start → start ≤ end → IsSeamed pieces start end now mid → GoesOn pieces n from to (start - 1) (cuts + 1) old mid
     goes-more start mid cut less high is more new rest =
         let on : suc (start - 1) ≡ start = omega (arith, less) in
-        let share : IsSeamed pieces (suc (start - 1)) end (now + more) (mid + more) = λ s e x y a b. omega (arith, is s e x y (omega (arith, on)) b) in
-        let both : IsSeamed pieces from end (now + more + n) new = seamed-cut pieces (start - 1) n cut from end (now + more) (mid + more) new (omega arith) (omega arith) share rest in
+        let scan_batch : IsSeamed pieces (suc (start - 1)) end (now + more) (mid + more) = λ s e x y a b. omega (arith, is s e x y (omega (arith, on)) b) in
+        let both : IsSeamed pieces from end (now + more + n) new = seamed-cut pieces (start - 1) n cut from end (now + more) (mid + more) new (omega arith) (omega arith) scan_batch rest in
         let all : IsSeamed pieces from to (old + times cuts n + (n + more)) new = so_far (n + more) new (seamed-part pieces from end from end (now + more + n) (now + (n + more)) new (omega arith) (omega arith) (omega arith) both) in
         seamed-part pieces from to from to (old + times cuts n + (n + more)) (old + times (cuts + 1) n + more) new (omega arith) (omega arith) (omega (arith, times-more cuts n)) all
 
@@ -182,5 +182,5 @@ at-seam pieces end last (inl same) other = absurd (omega arith)
 at-seam pieces end last (inr seam) other = seam
 
 -- what is walked over of a stretch of buckets is in the interval
-pub stretch-inside : (q : Query) (ps : List Point) (stretch : Stretch) → IsStretchIn q ps stretch → (q.from ≤ stretch.from) × (stretch.to ≤ q.to)
-stretch-inside q ps stretch is = (omega (arith, is.is.part.early), omega (arith, is.is.part.late))
+pub bucket_range-inside : (q : Query) (ps : List Point) (bucket_range : BucketRange) → IsBucketRangeIn q ps bucket_range → (q.from ≤ bucket_range.from) × (bucket_range.to ≤ q.to)
+bucket_range-inside q ps bucket_range is = (omega (arith, is.is.part.early), omega (arith, is.is.part.late))

@@ -12,12 +12,12 @@ use Rattle.ts_range.specs.Query.{cell_of}
 use Rattle.ts_resp.specs.Replies.{value_of}
 use Rattle.std.specs.Prelude.{pos}
 use Rattle.ts_questions.specs.RowTexts.{row_texts, IsBody}
-use Rattle.ts_questions.proofs.ReplyTexts.{count-listed}
+use Rattle.ts_questions.proofs.ReplyTexts.{count-reply_list}
 
 -- their array's text is the line of their number, and these
 pub rows_text : (rows : List Row) (n : ℕ) → n ≡ length rows → line_text 42 (decimal n) ++ row_texts rows ≡ text (array (map row_reply rows))
 rows_text rows n is =
-    ap (λ (k : ℕ). line_text 42 (decimal k) ++ row_texts rows) (is ∙ sym (length-map rows row_reply) ∙ sym (count-listed (map row_reply rows)))
+    ap (λ (k : ℕ). line_text 42 (decimal k) ++ row_texts rows) (is ∙ sym (length-map rows row_reply) ∙ sym (count-reply_list (map row_reply rows)))
 
 -- ---- rows behind a gap
 

@@ -5,7 +5,7 @@ use Rattle.ts_spec.specs.Refusal.{Refusal, EmptyRows}
 use Rattle.ts_spec.specs.Replies.{reply_to, memory_reply, refusal_reply}
 use Rattle.ts_spec.specs.Response.{Response}
 use Rattle.ts_spec.specs.Text.{Reply, text}
-use Rattle.ts_db.specs.Held.{YieldsToMemory}
+use Rattle.ts_db.specs.DbState.{AllowsOutOfMemory}
 
 -- the message of a rejection, or of running out of memory
 abbrev pub message_of : Option Refusal → List ℕ
@@ -18,7 +18,7 @@ IsTextOrLost may response written = (written ≡ text (reply_to response)) ⊎ (
 
 -- the out-of-memory error is allowed unless the command would fail anyway
 abbrev pub IsReplyText : Response → List ℕ → Type 0
-IsReplyText response written = IsTextOrLost (YieldsToMemory response) response written
+IsReplyText response written = IsTextOrLost (AllowsOutOfMemory response) response written
 
 -- the error for rows that can't be returned: too many, or out of memory
 abbrev pub lost_reply : (are_too_many : Bool) → Reply
@@ -27,7 +27,7 @@ lost_reply false = memory_reply
 
 -- the output is the too-many-rows error if a series has too many rows; else it is the text of the response, or the
 -- out-of-memory error
-abbrev pub IsManyText : (is_too_much : Bool) → Response → List ℕ → Type 0
+abbrev pub IsManyText : (is_over_limit : Bool) → Response → List ℕ → Type 0
 IsManyText true response written = written ≡ text (lost_reply true)
 IsManyText false response written = (written ≡ text (reply_to response)) ⊎ (written ≡ text (lost_reply false))
 

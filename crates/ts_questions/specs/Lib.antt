@@ -1,6 +1,6 @@
 pub mod Answering
 pub mod Asking
 pub mod Bounds
-pub mod Grouping
+pub mod GroupQuery
 pub mod Members
 pub mod RowTexts

@@ -7,22 +7,22 @@ use Rattle.ts_spec.specs.Key.{Key}
 use Rattle.ts_spec.specs.Keyed.{get}
 use Rattle.ts_spec.specs.Command.{Show, Query}
 use Rattle.ts_spec.specs.Filter.{Filter, all_hold, selection}
-use Rattle.ts_spec.specs.Answer.{answer, is_let_through}
+use Rattle.ts_spec.specs.Answer.{answer, passes_filters}
 use Rattle.ts_spec.specs.Sample.{Point}
 use Rattle.ts_spec.specs.Response.{Response, Keys, LastRows}
 use Rattle.ts_spec.specs.Replies.{member_reply, last_member_reply, array}
 use Rattle.ts_spec.specs.Text.{Reply, Bulk, text}
-use Rattle.ts_spec.specs.Kept.{Keeping}
-use Rattle.ts_spec.specs.KeptQuestions.{kept_asked, kept_labels_at, kept_member, kept_last_member, kept_members_of}
-use Rattle.ts_spec.specs.Questions.{members_of, members_response, last_member}
+use Rattle.ts_spec.specs.StoredSeries.{StoredKeys}
+use Rattle.ts_spec.specs.StoredQueries.{stored_asked, stored_labels_at, stored_member, stored_last_member, stored_members_of}
+use Rattle.ts_spec.specs.Queries.{members_of, members_response, last_member}
 use Rattle.ts_labels.specs.Show.{show_of}
 use Rattle.ts_range.specs.Filters.{passes}
 use Rattle.ts_range.specs.Query.{query_of}
 use Rattle.ts_range.specs.declared.query.RangeFault.{RangeFault}
 use Rattle.ts_range.specs.declared.query.RangeFault.TheVariants.{EmptyRows, Memory}
-use Rattle.ts_db.specs.Held.{Held, Stock}
-use Rattle.ts_questions.specs.declared.wanted.Wanted.{Wanted}
-use Rattle.ts_questions.specs.declared.wanted.Wanted.TheVariants as wanted
+use Rattle.ts_db.specs.DbState.{DbState, DbView}
+use Rattle.ts_questions.specs.declared.member_content.MemberContent.{MemberContent}
+use Rattle.ts_questions.specs.declared.member_content.MemberContent.TheVariants as wanted
 
 -- the result of a call that can only fail for lack of memory
 abbrev pub in_memory : Result (Unit {0}) AllocError → Result (Unit {0}) RangeFault
@@ -35,25 +35,25 @@ is_too_many EmptyRows = true
 is_too_many (Memory fault) = false
 
 -- the member of a key with the rows of a query, unless these are too many
-abbrev pub rows_at : Limits → Keeping → Bool → Show → Query → Key → Option Reply
-rows_at limits m latest show q k = option_map (λ rows. member_reply (kept_member m show k rows)) (answer limits.empty_rows q (kept_asked m latest k))
+abbrev pub rows_at : Limits → StoredKeys → Bool → Show → Query → Key → Option Reply
+rows_at limits m latest show q k = option_map (λ rows. member_reply (stored_member m show k rows)) (answer limits.empty_rows q (stored_asked m latest k))
 
 -- the member of a key, unless its rows are too many
-abbrev pub reply_at : Limits → Keeping → Wanted → Key → Option Reply
+abbrev pub reply_at : Limits → StoredKeys → MemberContent → Key → Option Reply
 reply_at limits m wanted.Key k = Some (Bulk k)
-reply_at limits m (wanted.Last latest show) k = Some (last_member_reply (kept_last_member m latest (show_of show) k))
+reply_at limits m (wanted.Last latest show) k = Some (last_member_reply (stored_last_member m latest (show_of show) k))
 reply_at limits m (wanted.Rows latest show query filters) k = rows_at limits m latest (show_of show) (query_of query) k
 
 -- an element in front of the others, or nothing if either is missing
-abbrev pub told_then : {X : Type 0} → Option X → Option (List X) → Option (List X)
-told_then None others = None
-told_then (Some one) None = None
-told_then (Some one) (Some others) = Some (one ∷ others)
+abbrev pub reply_then : {X : Type 0} → Option X → Option (List X) → Option (List X)
+reply_then None others = None
+reply_then (Some one) None = None
+reply_then (Some one) (Some others) = Some (one ∷ others)
 
 -- the elements of all keys, or nothing if one is missing
-abbrev pub each_told : {X : Type 0} → (Key → Option X) → List Key → Option (List X)
-each_told told [] = Some []
-each_told told (k ∷ ks) = told_then (told k) (each_told told ks)
+abbrev pub each_reply : {X : Type 0} → (Key → Option X) → List Key → Option (List X)
+each_reply told [] = Some []
+each_reply told (k ∷ ks) = reply_then (told k) (each_reply told ks)
 
 -- the element exists, and its text was appended
 abbrev pub IsAdded : {X Y : Type 0} → (X → List Y) → Option X → (before after : List Y) → Type 0
@@ -76,27 +76,27 @@ AreGatheredOrLost lost None before after = ⊥
 AreGatheredOrLost lost (Some all) before after = lost ≡ false → after ≡ before ++ flat_map (λ ys. ys) all
 
 -- whether a key has too many rows
-abbrev pub is_too_much_at : Wanted → Stock → Key → Bool
-is_too_much_at w stock k = is_none (reply_at stock.limits stock.keys w k)
+abbrev pub is_over_limit_at : MemberContent → DbView → Key → Bool
+is_over_limit_at w db_view k = is_none (reply_at db_view.limits db_view.keys w k)
 
 -- whether a key matches the filters and has too many rows
-abbrev pub is_refused_at : Stock → List Filter → (is_too_much : Key → Bool) → Key → Bool
-is_refused_at stock fs is_too_much k = all_hold fs (kept_labels_at (get k stock.keys)) && is_too_much k
+abbrev pub is_refused_at : DbView → List Filter → (is_over_limit : Key → Bool) → Key → Bool
+is_refused_at db_view fs is_over_limit k = all_hold fs (stored_labels_at (get k db_view.keys)) && is_over_limit k
 
 -- the prepared filters, if there was memory for them, match the query
-abbrev pub AreAsAsked : Wanted → Type 0
+abbrev pub AreAsAsked : MemberContent → Type 0
 AreAsAsked wanted.Key = ⊤
 AreAsAsked (wanted.Last latest show) = ⊤
-AreAsAsked (wanted.Rows latest show query filters) = ForSome filters (λ f. (p : Point) → passes f p ≡ is_let_through (query_of query) p)
+AreAsAsked (wanted.Rows latest show query filters) = ForSome filters (λ f. (p : Point) → passes f p ≡ passes_filters (query_of query) p)
 
 -- the response over these keys, from the stored data
-abbrev pub kept_many : Limits → Keeping → Wanted → List Key → Response
-kept_many limits m wanted.Key ks = Keys ks
-kept_many limits m (wanted.Last latest show) ks = LastRows (map (kept_last_member m latest (show_of show)) ks)
-kept_many limits m (wanted.Rows latest show query filters) ks = members_response (kept_members_of limits m latest (show_of show) (query_of query) ks)
+abbrev pub stored_many : Limits → StoredKeys → MemberContent → List Key → Response
+stored_many limits m wanted.Key ks = Keys ks
+stored_many limits m (wanted.Last latest show) ks = LastRows (map (stored_last_member m latest (show_of show)) ks)
+stored_many limits m (wanted.Rows latest show query filters) ks = members_response (stored_members_of limits m latest (show_of show) (query_of query) ks)
 
 -- the response over the series that match the filters
-abbrev pub many_response : Held → Wanted → List Filter → Response
+abbrev pub many_response : DbState → MemberContent → List Filter → Response
 many_response from wanted.Key fs = Keys (selection from.state fs)
 many_response from (wanted.Last latest show) fs = LastRows (map (last_member from.state latest (show_of show)) (selection from.state fs))
 many_response from (wanted.Rows latest show query filters) fs = members_response (members_of from.limits from.state latest (show_of show) (query_of query) (selection from.state fs))

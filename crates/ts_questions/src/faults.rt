@@ -63,7 +63,7 @@ fn message(fault: DbFault) -> &'static str
 }
 
 /// Writes the out-of-memory error. The output always has capacity reserved for it.
-pub fn put_no_memory(out: &mut Out)
+pub fn write_out_of_memory(out: &mut Out)
     requires empty { out.old.bytes ≡ [] }
     requires room { 128 ≤ length out.old.bytes + out.old.spare }
     ensures bytes { out.new.bytes ≡ text memory_reply }
@@ -73,7 +73,7 @@ pub fn put_no_memory(out: &mut Out)
 }
 
 /// Replaces the output by an error: too many rows, or else out of memory.
-pub(crate) fn put_lost(are_too_many: bool, out: &mut Out)
+pub(crate) fn write_row_error(are_too_many: bool, out: &mut Out)
     requires room { 128 ≤ length out.old.bytes + out.old.spare }
     ensures bytes { out.new.bytes ≡ text (lost_reply are_too_many) }
     ensures room { 128 ≤ length out.new.bytes + out.new.spare }
@@ -83,18 +83,19 @@ pub(crate) fn put_lost(are_too_many: bool, out: &mut Out)
         put(&too_many_rows(), out);
         return;
     }
-    put_no_memory(out);
+    write_out_of_memory(out);
 }
 
 /// Writes a reply, growing the output as needed, or writes the out-of-memory error.
-pub fn put_or_no_memory(reply: &Reply, out: &mut Out)
+pub fn write_or_out_of_memory(reply: &Reply, out: &mut Out)
     requires empty { out.old.bytes ≡ [] }
     requires room { 128 ≤ out.old.spare }
-    ensures bytes { (out.new.bytes ≡ text (reply_of reply.now)) ⊎ ((out.old.spare < length (text (reply_of reply.now))) × (out.new.bytes ≡ text memory_reply)) }
+    ensures bytes { (out.new.bytes ≡ text (reply_of reply.now))
+        ⊎ ((out.old.spare < length (text (reply_of reply.now))) × (out.new.bytes ≡ text memory_reply)) }
     ensures room { 128 ≤ length out.new.bytes + out.new.spare }
 {
     match encode(reply, out) {
         Ok(()) => {}
-        Err(_) => put_no_memory(out),
+        Err(_) => write_out_of_memory(out),
     }
 }

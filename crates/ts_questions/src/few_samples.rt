@@ -2,62 +2,64 @@
 ghost use Rattle.std.specs.Prelude.{◌≡◌, ◌≤◌, true, false, None, ◌+◌, ◌*◌, [], ◌∷◌};
 ghost use Rattle.ts_spec.specs.Answer.{rows, row_of as row_of_sample};
 ghost use Rattle.ts_range.specs.Query.{query_of, row_of};
-ghost use Rattle.ts_questions.specs.Asking.{samples_asked, rows_asked, reach_asked, IsFew};
+ghost use Rattle.ts_questions.specs.Asking.{queried_samples, queried_rows, queried_reach, IsFew};
 ghost use Rattle.std.specs.Option.{ForSome};
 
-use crate::question::Question;
+use crate::series_query::SeriesQuery;
 use std::sync::ledger::Ledger;
-use ts_range::{Query, Row, Take};
+use ts_range::{Query, Row, RowSink};
 use ts_sample::{Cell, Sample, Steps};
 
 /// An end time late enough for the first `count` rows, and early enough to skip most later samples.
-pub(crate) fn last_wanted(question: &Question<'_>) -> u64
-    requires forward { question.now.query.now.reverse ≡ false }
-    ensures within { result ≤ question.now.query.now.to }
-    ensures rows { rows (record (query_of question.now.query.now) { to = result }) (samples_asked question.now) ≡ rows_asked question.now }
+pub(crate) fn narrowed_to(series_query: &SeriesQuery<'_>) -> u64
+    requires forward { series_query.now.query.now.reverse ≡ false }
+    ensures within { result ≤ series_query.now.query.now.to }
+    ensures rows { rows (record (query_of series_query.now.query.now) { to = result })
+        (queried_samples series_query.now) ≡ queried_rows series_query.now }
 {
-    let query = question.query;
-    question.known();
+    let query = series_query.query;
+    series_query.known();
     let Some(count) = query.count else {
         return query.to;
     };
-    if question.latest {
+    if series_query.latest {
         return query.to;
     }
     if query.to < query.from {
         return query.to;
     }
-    if !tells_each(query) {
+    if !is_plain_scan(query) {
         return query.to;
     }
-    question.time_for(query.from, query.to, count)
+    series_query.end_for_count(query.from, query.to, count)
 }
 
 /// A start time early enough for the last `count` rows, and late enough to skip most earlier samples.
-pub(crate) fn first_wanted(question: &Question<'_>) -> u64
-    requires backward { question.now.query.now.reverse ≡ true }
-    ensures within { question.now.query.now.from ≤ result }
-    ensures rows { rows (record (query_of question.now.query.now) { from = result }) (samples_asked question.now) ≡ rows_asked question.now }
+pub(crate) fn narrowed_from(series_query: &SeriesQuery<'_>) -> u64
+    requires backward { series_query.now.query.now.reverse ≡ true }
+    ensures within { series_query.now.query.now.from ≤ result }
+    ensures rows { rows (record (query_of series_query.now.query.now) { from = result })
+        (queried_samples series_query.now) ≡ queried_rows series_query.now }
 {
-    let query = question.query;
-    question.known();
+    let query = series_query.query;
+    series_query.known();
     let Some(count) = query.count else {
         return query.from;
     };
-    if question.latest {
+    if series_query.latest {
         return query.from;
     }
     if query.to < query.from {
         return query.from;
     }
-    if !tells_each(query) {
+    if !is_plain_scan(query) {
         return query.from;
     }
-    question.time_from(query.from, query.to, count)
+    series_query.start_for_count(query.from, query.to, count)
 }
 
 /// Whether the query is a plain scan, which returns each sample of its interval.
-pub(crate) fn tells_each(query: &Query) -> bool
+pub(crate) fn is_plain_scan(query: &Query) -> bool
     ensures { result ≡ true → (query.now.times ≡ None) × (query.now.values ≡ None) × (query.now.buckets ≡ None) }
 {
     if query.times.is_some() {
@@ -73,17 +75,17 @@ pub(crate) fn tells_each(query: &Query) -> bool
 const FEW: u64 = 64;
 
 /// The sample limit, if the query is a plain scan with a small COUNT.
-pub(crate) fn few_wanted(question: &Question<'_>) -> Option<u64>
-    ensures { ForSome result (IsFew question.now) }
+pub(crate) fn small_count(series_query: &SeriesQuery<'_>) -> Option<u64>
+    ensures { ForSome result (IsFew series_query.now) }
 {
-    let count = question.query.count?;
-    if question.latest {
+    let count = series_query.query.count?;
+    if series_query.latest {
         return None;
     }
-    if !tells_each(question.query) {
+    if !is_plain_scan(series_query.query) {
         return None;
     }
-    if question.chunk_reach() <= count {
+    if series_query.chunk_reach() <= count {
         return None;
     }
     if FEW < count {
@@ -93,47 +95,50 @@ pub(crate) fn few_wanted(question: &Question<'_>) -> Option<u64>
 }
 
 /// The sink after receiving the rows of the first `count` samples.
-pub(crate) fn few_into<T: Take, L: Ledger>(
-    question: &Question<'_>,
+pub(crate) fn emit_few<T: RowSink, L: Ledger>(
+    series_query: &SeriesQuery<'_>,
     count: u64,
-    mut taker: T,
+    mut row_sink: T,
     steps: &mut Steps<L>,
 ) -> T
-    requires few { IsFew question.now count }
-    requires forward { question.now.query.now.reverse ≡ false }
-    requires none { T.has taker [] }
-    ensures rows { T.has result (rows_asked question.now) }
-    ensures steps { steps.new ≤ steps.old + 2 * reach_asked question.now }
+    requires few { IsFew series_query.now count }
+    requires forward { series_query.now.query.now.reverse ≡ false }
+    requires none { T.has row_sink [] }
+    ensures rows { T.has result (queried_rows series_query.now) }
+    ensures steps { steps.new ≤ steps.old + 2 * queried_reach series_query.now }
 {
-    question.known();
-    let to = question.query.to;
-    let mut samples = question.read_from(question.query.from, steps);
+    series_query.known();
+    let to = series_query.query.to;
+    let mut samples = series_query.read_from(series_query.query.from, steps);
     let mut left = count;
     while left > 0 {
         let Some(sample) = samples.next(steps) else {
-            return taker;
+            return row_sink;
         };
         if sample.time > to {
-            return taker;
+            return row_sink;
         }
-        taker.row(row(&sample));
+        row_sink.row(row(&sample));
         left -= 1;
     }
-    taker
+    row_sink
 }
 
 /// The row of the last sample, if the query returns only that.
-pub(crate) fn last_alone<L: Ledger>(question: &Question<'_>, steps: &mut Steps<L>) -> Option<Row>
-    requires backward { question.now.query.now.reverse ≡ true }
-    ensures row { ForSome result (λ row. rows_asked question.now ≡ row_of row ∷ []) }
+pub(crate) fn only_last_row<L: Ledger>(
+    series_query: &SeriesQuery<'_>,
+    steps: &mut Steps<L>,
+) -> Option<Row>
+    requires backward { series_query.now.query.now.reverse ≡ true }
+    ensures row { ForSome result (λ row. queried_rows series_query.now ≡ row_of row ∷ []) }
     ensures steps { steps.new ≡ steps.old }
 {
-    let count = few_wanted(question)?;
+    let count = small_count(series_query)?;
     if count != 1 {
         return None;
     }
-    let query = question.query;
-    let last = question.last(steps)?;
+    let query = series_query.query;
+    let last = series_query.last(steps)?;
     if last.time < query.from {
         return None;
     }

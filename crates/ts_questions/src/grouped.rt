@@ -4,19 +4,19 @@ ghost use Rattle.std.specs.List.{list_any};
 ghost use Rattle.std.specs.Result.{is_err};
 ghost use Rattle.ts_spec.specs.Replies.{array};
 ghost use Rattle.ts_spec.specs.Text.{text};
-ghost use Rattle.ts_db.specs.Faults.{key_with};
-ghost use Rattle.ts_questions.specs.Grouping.{IsGrouping, IsNumbered, group_reply, is_group_refused, group_steps};
-ghost use Rattle.ts_questions.specs.Grouping.{groups_of_numbers, is_too_long, number_steps, numbers_steps, refusals};
+ghost use Rattle.ts_db.specs.Faults.{key_of_id};
+ghost use Rattle.ts_questions.specs.GroupQuery.{IsGroupQuery, IsIdOfOneKey, group_reply, is_group_refused, group_steps};
+ghost use Rattle.ts_questions.specs.GroupQuery.{groups_of_ids, is_too_long, id_steps, ids_steps, refusals};
 
 use crate::by_value::by_value;
 use crate::gathering::gather;
-use crate::grouping::Grouping;
+use crate::group_query::GroupQuery;
 use crate::members::begin_members;
-use crate::telling::Telling;
+use crate::multi_reply::MultiReply;
 use std::alloc::AllocError;
 use std::sync::ledger::Ledger;
 use ts_db::{Db, Id};
-use ts_group::{Group, encode_one};
+use ts_group::{Group, encode_group_of};
 use ts_range::RangeFault;
 use ts_resp::{Out, Word};
 use ts_sample::Steps;
@@ -26,24 +26,25 @@ use ts_sample::Steps;
 pub(crate) fn add_groups<L: Ledger>(
     db: &Db,
     ids: &[Id],
-    grouping: &Grouping,
+    group_query: &GroupQuery,
     out: &mut Out,
     steps: &mut Steps<L>,
 ) -> Result<bool, RangeFault>
-    requires numbered { All (IsNumbered db.now.ids) ids.now }
-    requires grouping { IsGrouping grouping.now }
-    ensures told { IfOk result (λ lost. refusals db.now grouping.now ids.now ≡ 0) }
-    ensures added { IfOk result (λ lost. lost ≡ false → out.new.bytes ≡ out.old.bytes ++ text (array (groups_of_numbers db.now grouping.now ids.now))) }
-    ensures refused { IfErr result (λ fault. 1 ≤ refusals db.now grouping.now ids.now) }
+    requires numbered { All (IsIdOfOneKey db.now.ids) ids.now }
+    requires group_query { IsGroupQuery group_query.now }
+    ensures told { IfOk result (λ lost. refusals db.now group_query.now ids.now ≡ 0) }
+    ensures added { IfOk result (λ lost. lost ≡ false
+        → out.new.bytes ≡ out.old.bytes ++ text (array (groups_of_ids db.now group_query.now ids.now))) }
+    ensures refused { IfErr result (λ fault. 1 ≤ refusals db.now group_query.now ids.now) }
     ensures room { length out.old.bytes + out.old.spare ≤ length out.new.bytes + out.new.spare }
-    ensures steps { steps.new ≤ steps.old + numbers_steps db.now grouping.now ids.now }
+    ensures steps { steps.new ≤ steps.old + ids_steps db.now group_query.now ids.now }
 {
-    let Ok(groups) = by_value(db, ids, grouping) else {
-        return lost_unless_refused(db, ids, grouping, steps);
+    let Ok(groups) = by_value(db, ids, group_query) else {
+        return lost_unless_refused(db, ids, group_query, steps);
     };
     let mut lost = begin_members(groups.len(), out);
     for (value, numbers) in groups.iter() {
-        lost = add_group(db, value, numbers.all(), grouping, lost, out, steps)?;
+        lost = add_group(db, value, numbers.all(), group_query, lost, out, steps)?;
     }
     Ok(lost)
 }
@@ -52,17 +53,17 @@ pub(crate) fn add_groups<L: Ledger>(
 fn lost_unless_refused<L: Ledger>(
     db: &Db,
     ids: &[Id],
-    grouping: &Grouping,
+    group_query: &GroupQuery,
     steps: &mut Steps<L>,
 ) -> Result<bool, RangeFault>
-    requires { All (IsNumbered db.now.ids) ids.now }
-    ensures told { IfOk result (λ lost. refusals db.now grouping.now ids.now ≡ 0) }
+    requires { All (IsIdOfOneKey db.now.ids) ids.now }
+    ensures told { IfOk result (λ lost. refusals db.now group_query.now ids.now ≡ 0) }
     ensures lost { IfOk result (λ lost. lost ≡ true) }
-    ensures refused { IfErr result (λ fault. 1 ≤ refusals db.now grouping.now ids.now) }
-    ensures steps { steps.new ≤ steps.old + numbers_steps db.now grouping.now ids.now }
+    ensures refused { IfErr result (λ fault. 1 ≤ refusals db.now group_query.now ids.now) }
+    ensures steps { steps.new ≤ steps.old + ids_steps db.now group_query.now ids.now }
 {
     for id in ids {
-        if is_number_refused(db, *id, grouping, steps) {
+        if is_number_refused(db, *id, group_query, steps) {
             return Err(RangeFault::EmptyRows);
         }
     }
@@ -70,12 +71,17 @@ fn lost_unless_refused<L: Ledger>(
 }
 
 // Whether a series has the label and too many rows. Allocates nothing.
-fn is_number_refused<L: Ledger>(db: &Db, id: Id, grouping: &Grouping, steps: &mut Steps<L>) -> bool
-    requires { IsNumbered db.now.ids id }
-    ensures refused { result ≡ is_group_refused grouping.now db.now (key_with db.now.ids id) }
-    ensures steps { steps.new ≤ steps.old + group_steps grouping.now db.now (key_with db.now.ids id) }
+fn is_number_refused<L: Ledger>(
+    db: &Db,
+    id: Id,
+    group_query: &GroupQuery,
+    steps: &mut Steps<L>,
+) -> bool
+    requires { IsIdOfOneKey db.now.ids id }
+    ensures refused { result ≡ is_group_refused group_query.now db.now (key_of_id db.now.ids id) }
+    ensures steps { steps.new ≤ steps.old + group_steps group_query.now db.now (key_of_id db.now.ids id) }
 {
-    grouping.is_refused(db, id, steps)
+    group_query.is_refused(db, id, steps)
 }
 
 // Writes the group of `value`, or after memory ran out only checks that the rows are not too many. Returns whether
@@ -84,33 +90,34 @@ fn add_group<L: Ledger>(
     db: &Db,
     value: &Word,
     ids: &[Id],
-    grouping: &Grouping,
+    group_query: &GroupQuery,
     before: bool,
     out: &mut Out,
     steps: &mut Steps<L>,
 ) -> Result<bool, RangeFault>
-    requires numbered { All (IsNumbered db.now.ids) ids.now }
-    requires grouping { IsGrouping grouping.now }
-    ensures told { IfOk result (λ lost. list_any (is_too_long db.now grouping.now) ids.now ≡ false) }
-    ensures added { IfOk result (λ lost. lost ≡ false → out.new.bytes ≡ out.old.bytes ++ text (group_reply db.now grouping.now value.now ids.now)) }
+    requires numbered { All (IsIdOfOneKey db.now.ids) ids.now }
+    requires group_query { IsGroupQuery group_query.now }
+    ensures told { IfOk result (λ lost. list_any (is_too_long db.now group_query.now) ids.now ≡ false) }
+    ensures added { IfOk result (λ lost. lost ≡ false
+        → out.new.bytes ≡ out.old.bytes ++ text (group_reply db.now group_query.now value.now ids.now)) }
     ensures stays { IfOk result (λ lost. lost ≡ false → before ≡ false) }
-    ensures refused { IfErr result (λ fault. list_any (is_too_long db.now grouping.now) ids.now ≡ true) }
+    ensures refused { IfErr result (λ fault. list_any (is_too_long db.now group_query.now) ids.now ≡ true) }
     ensures room { length out.old.bytes + out.old.spare ≤ length out.new.bytes + out.new.spare }
-    ensures steps { steps.new ≤ steps.old + sum_by (number_steps db.now grouping.now) ids.now }
+    ensures steps { steps.new ≤ steps.old + sum_by (id_steps db.now group_query.now) ids.now }
 {
     let mut group = Group::new(db.alloc());
-    let lost = gather(db, ids, grouping, before, &mut group, steps)?;
+    let lost = gather(db, ids, group_query, before, &mut group, steps)?;
     if lost {
         return Ok(true);
     }
-    Ok(is_lost(encode_one(
+    Ok(is_lost(encode_group_of(
         db.alloc(),
         &group,
-        &grouping.by,
+        &group_query.by,
         value,
-        &grouping.show,
-        grouping.count,
-        grouping.query.reverse,
+        &group_query.show,
+        group_query.count,
+        group_query.query.reverse,
         out,
     )))
 }

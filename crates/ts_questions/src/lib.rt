@@ -2,26 +2,26 @@
 #![tactic(auto)]
 
 mod by_value;
+mod emit_planned_rows;
 mod faults;
 mod few_samples;
-mod filled;
-mod from_back;
+mod gap_filled;
 mod gathering;
+mod group_query;
 mod grouped;
-mod grouping;
 mod last_rows;
 mod member;
+mod member_content;
 mod members;
-mod question;
-mod questions;
+mod multi_reply;
+mod query_replies;
+mod reversed_samples;
+mod row_plans;
 mod row_texts;
-mod rows_into;
-mod telling;
-mod told;
+mod series_query;
 mod walked;
-mod wanted;
 
-pub use faults::{put_no_memory, put_or_no_memory, refusal_reply};
-pub use members::put_members;
-pub use questions::{put_get, put_range, put_ranges};
-pub use wanted::Wanted;
+pub use faults::{refusal_reply, write_or_out_of_memory, write_out_of_memory};
+pub use member_content::MemberContent;
+pub use members::write_members;
+pub use query_replies::{write_get, write_range, write_ranges};

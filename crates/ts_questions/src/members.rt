@@ -4,18 +4,18 @@ ghost use Rattle.std.specs.Prelude.{IfErr, IfOk};
 ghost use Rattle.std.specs.Fmt.{decimal};
 ghost use Rattle.ts_spec.specs.Key.{Key};
 ghost use Rattle.ts_spec.specs.Keyed.{get};
-ghost use Rattle.ts_spec.specs.KeptQuestions.{kept_selection};
+ghost use Rattle.ts_spec.specs.StoredQueries.{stored_selection};
 ghost use Rattle.ts_spec.specs.Text.{line_text, text};
 ghost use Rattle.ts_db.specs.Bounds.{selection_steps};
-ghost use Rattle.ts_db.specs.Held.{Held, Stands, IsLive, AreNumbersOf};
+ghost use Rattle.ts_db.specs.DbState.{DbState, Represents, IsLive, AreIdsOf};
 ghost use Rattle.ts_questions.specs.Answering.{IsReplyText};
-ghost use Rattle.ts_questions.specs.Bounds.{wanted_steps};
-ghost use Rattle.ts_questions.specs.Members.{reply_at, each_told, AreAsAsked, IsAddedOrLost, AreAddedOrLost};
+ghost use Rattle.ts_questions.specs.Bounds.{content_steps};
+ghost use Rattle.ts_questions.specs.Members.{reply_at, each_reply, AreAsAsked, IsAddedOrLost, AreAddedOrLost};
 ghost use Rattle.ts_questions.specs.Members.{many_response};
 
 use crate::member::add_member;
-use crate::telling::{Telling, put_many};
-use crate::wanted::Wanted;
+use crate::member_content::MemberContent;
+use crate::multi_reply::{MultiReply, write_many};
 use std::sync::ledger::Ledger;
 use ts_db::{Db, Id};
 use ts_labels::Filter;
@@ -25,21 +25,24 @@ use ts_sample::Steps;
 
 /// Writes the reply over all series that match the filters, in the order of their keys. If a series has too many rows,
 /// the reply is that error, even if memory ran out for others.
-pub fn put_members<L: Ledger>(
+pub fn write_members<L: Ledger>(
     db: &Db,
     filters: &[Filter],
-    wanted: &Wanted,
+    wanted: &MemberContent,
     out: &mut Out,
     steps: &mut Steps<L>,
 )
     requires lets { AreAsAsked wanted.now }
     requires empty { out.old.bytes ≡ [] }
     requires room { 128 ≤ out.old.spare }
-    ensures reply { (from : Held) → Stands db.now from → IsReplyText (many_response from wanted.now filters.now) out.new.bytes }
+    ensures reply { (from : DbState) → Represents db.now from
+        → IsReplyText (many_response from wanted.now filters.now) out.new.bytes }
     ensures room { 128 ≤ length out.new.bytes + out.new.spare }
-    ensures steps { steps.new ≤ steps.old + (selection_steps db.now filters.now + sum_by (wanted_steps db.now wanted.now) (kept_selection db.now.keys filters.now)) }
+    ensures steps { steps.new ≤ steps.old
+        + (selection_steps db.now filters.now
+        + sum_by (content_steps db.now wanted.now) (stored_selection db.now.keys filters.now)) }
 {
-    put_many(db, filters, wanted, out, steps);
+    write_many(db, filters, wanted, out, steps);
 }
 
 /// Writes the array of the members for these series. Fails if one of them has too many rows. Returns whether memory ran
@@ -47,18 +50,20 @@ pub fn put_members<L: Ledger>(
 pub(crate) fn add_members<L: Ledger>(
     db: &Db,
     ids: &[Id],
-    wanted: &Wanted,
+    wanted: &MemberContent,
     out: &mut Out,
     steps: &mut Steps<L>,
 ) -> Result<bool, RangeFault>
     requires live { All (IsLive db.now.ids) ids.now }
     requires lets { AreAsAsked wanted.now }
-    ensures added { IfOk result (λ lost. (keys : List Key) → AreNumbersOf db.now.ids keys ids.now
-        → AreAddedOrLost lost (each_told (reply_at db.now.limits db.now.keys wanted.now) keys) out.old.bytes out.new.bytes) }
-    ensures refused { IfErr result (λ fault. (keys : List Key) → AreNumbersOf db.now.ids keys ids.now
-        → each_told (reply_at db.now.limits db.now.keys wanted.now) keys ≡ None) }
+    ensures added { IfOk result (λ lost. (keys : List Key) → AreIdsOf db.now.ids keys ids.now
+        → AreAddedOrLost lost (each_reply (reply_at db.now.limits db.now.keys wanted.now) keys) out.old.bytes
+        out.new.bytes) }
+    ensures refused { IfErr result (λ fault. (keys : List Key) → AreIdsOf db.now.ids keys ids.now
+        → each_reply (reply_at db.now.limits db.now.keys wanted.now) keys ≡ None) }
     ensures room { length out.old.bytes + out.old.spare ≤ length out.new.bytes + out.new.spare }
-    ensures steps { (keys : List Key) → AreNumbersOf db.now.ids keys ids.now → steps.new ≤ steps.old + sum_by (wanted_steps db.now wanted.now) keys }
+    ensures steps { (keys : List Key) → AreIdsOf db.now.ids keys ids.now
+        → steps.new ≤ steps.old + sum_by (content_steps db.now wanted.now) keys }
 {
     let mut lost = begin_members(ids.len(), out);
     for id in ids {
@@ -83,18 +88,21 @@ pub(crate) fn begin_members(count: usize, out: &mut Out) -> bool
 fn add_next<L: Ledger>(
     db: &Db,
     id: Id,
-    wanted: &Wanted,
+    wanted: &MemberContent,
     lost: bool,
     out: &mut Out,
     steps: &mut Steps<L>,
 ) -> Result<bool, RangeFault>
     requires live { IsLive db.now.ids id }
     requires lets { AreAsAsked wanted.now }
-    ensures added { IfOk result (λ now. (key : Key) → get key db.now.ids ≡ Some id → IsAddedOrLost text now (reply_at db.now.limits db.now.keys wanted.now key) out.old.bytes out.new.bytes) }
+    ensures added { IfOk result (λ now. (key : Key) → get key db.now.ids ≡ Some id
+        → IsAddedOrLost text now (reply_at db.now.limits db.now.keys wanted.now key) out.old.bytes out.new.bytes) }
     ensures stays { IfOk result (λ now. now ≡ false → lost ≡ false) }
-    ensures refused { IfErr result (λ fault. (key : Key) → get key db.now.ids ≡ Some id → reply_at db.now.limits db.now.keys wanted.now key ≡ None) }
+    ensures refused { IfErr result (λ fault. (key : Key) → get key db.now.ids ≡ Some id
+        → reply_at db.now.limits db.now.keys wanted.now key ≡ None) }
     ensures room { length out.old.bytes + out.old.spare ≤ length out.new.bytes + out.new.spare }
-    ensures steps { (key : Key) → get key db.now.ids ≡ Some id → steps.new ≤ steps.old + wanted_steps db.now wanted.now key }
+    ensures steps { (key : Key) → get key db.now.ids ≡ Some id
+        → steps.new ≤ steps.old + content_steps db.now wanted.now key }
 {
     if lost {
         if wanted.is_refused(db, id, steps) {

@@ -1,9 +1,9 @@
 // A sink that writes rows as text.
 ghost use Rattle.std.specs.Prelude.{◌+◌, ◌≤◌, length};
 
-use crate::faults::put_no_memory;
-use ts_range::{Keep, Row, Take};
-use ts_resp::{Out, PAIR, close_array, open_array, put_pair};
+use crate::faults::write_out_of_memory;
+use ts_range::{FallibleRowSink, Row, RowSink};
+use ts_resp::{Out, PAIR_BYTES, close_array, open_array, write_pair};
 
 /// Writes the text of each row, after a gap of 24 bytes for the array header. The output grows as needed.
 #[derive(Drop)]
@@ -42,7 +42,8 @@ impl RowTexts {
 
     /// The text of the array of the rows, or the out-of-memory error.
     pub(crate) fn finish(self) -> Out
-        ensures reply { (rows : List TheRow) → AreWritten self.lost self.count self.out.bytes rows → IsReplyText (Rows rows) result.bytes }
+        ensures reply { (rows : List TheRow) → AreWritten self.lost self.count self.out.bytes rows
+            → IsReplyText (Rows rows) result.bytes }
         ensures room { 128 ≤ length result.bytes + result.spare }
     {
         let RowTexts {
@@ -52,7 +53,7 @@ impl RowTexts {
         } = self;
         if lost {
             out.clear();
-            put_no_memory(&mut out);
+            write_out_of_memory(&mut out);
             return out;
         }
         close_array(count as usize, &mut out);
@@ -60,8 +61,8 @@ impl RowTexts {
     }
 }
 
-impl Take for RowTexts {
-    ghost use Rattle.ts_range.specs.Taking.{no_limit};
+impl RowSink for RowTexts {
+    ghost use Rattle.ts_range.specs.SinkState.{no_limit};
     ghost use Rattle.ts_questions.specs.RowTexts.{AreWritten};
 
     ghost has = { λ t rows. AreWritten t.lost t.count t.out.bytes rows };
@@ -76,10 +77,10 @@ impl Take for RowTexts {
             self.lost = true;
             return;
         };
-        match self.out.reserve(PAIR) {
+        match self.out.reserve(PAIR_BYTES) {
             Err(_) => self.lost = true,
             Ok(()) => {
-                put_pair(row.time, row.value, &mut self.out);
+                write_pair(row.time, row.value, &mut self.out);
                 self.count = count;
             }
         }
@@ -90,7 +91,7 @@ impl Take for RowTexts {
     }
 }
 
-impl Keep for RowTexts {
+impl FallibleRowSink for RowTexts {
     fn lose(&mut self) {
         self.lost = true;
     }

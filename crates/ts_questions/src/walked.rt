@@ -1,83 +1,87 @@
 // Scans the samples of a query and skips those that can't contribute.
 ghost use Rattle.std.specs.Prelude.{◌≡◌, ◌≤◌, ◌+◌, ◌⊎◌, List, [], filter};
 ghost use Rattle.ts_spec.specs.Sample.{Point, between};
-ghost use Rattle.ts_range.specs.Walking.{lets, rows_chosen};
+ghost use Rattle.ts_range.specs.RowScanState.{lets, rows_passing};
 ghost use Rattle.ts_series.specs.Seams.{IsSeam, IsSeamed};
-ghost use Rattle.ts_questions.specs.Asking.{samples_asked, pieces_asked, rows_in};
+ghost use Rattle.ts_questions.specs.Asking.{queried_samples, queried_pieces, rows_in};
 
-use crate::question::Question;
+use crate::series_query::SeriesQuery;
 use std::sync::ledger::Ledger;
-use ts_range::{Take, Walk};
+use ts_range::{RowScan, RowSink};
 use ts_sample::Steps;
 
 // The least number of samples in a batch before the scan is asked what else it needs.
 const SHARE: u64 = 1024;
 
 /// The sink after receiving the rows of the samples between two times, oldest first.
-pub(crate) fn handed<T: Take, L: Ledger>(
-    question: &Question<'_>,
+pub(crate) fn emitted<T: RowSink, L: Ledger>(
+    series_query: &SeriesQuery<'_>,
     from: u64,
     to: u64,
-    taker: T,
+    row_sink: T,
     steps: &mut Steps<L>,
 ) -> T
-    requires none { T.has taker [] }
-    ensures rows { T.has result (rows_in question.now.query.now (samples_asked question.now) from to) }
-    ensures limit { T.limit result ≡ T.limit taker }
-    ensures seams { IsSeamed (pieces_asked question.now) from to steps.old steps.new }
+    requires none { T.has row_sink [] }
+    ensures rows { T.has result (rows_in series_query.now.query.now (queried_samples series_query.now) from to) }
+    ensures limit { T.limit result ≡ T.limit row_sink }
+    ensures seams { IsSeamed (queried_pieces series_query.now) from to steps.old steps.new }
 {
-    let walk = Walk::new(question.filters, question.query.buckets, taker);
-    walked(question, from, to, walk, steps)
+    let walk = RowScan::new(series_query.filters, series_query.query.buckets, row_sink);
+    walked(series_query, from, to, walk, steps)
 }
 
 /// Feeds the samples between two times to a fresh scan and returns its sink. For a query with a COUNT or with listed
 /// times it does not decode all samples.
-pub(crate) fn walked<T: Take, L: Ledger>(
-    question: &Question<'_>,
+pub(crate) fn walked<T: RowSink, L: Ledger>(
+    series_query: &SeriesQuery<'_>,
     from: u64,
     to: u64,
-    mut walk: Walk<'_, T>,
+    mut walk: RowScan<'_, T>,
     steps: &mut Steps<L>,
 ) -> T
     requires none { walk.seen ≡ [] }
-    ensures rows { T.has result (rows_chosen walk.entry.buckets (samples_asked question.now) (filter (lets walk.entry) (between from to (samples_asked question.now)))) }
+    ensures rows { T.has result
+        (rows_passing walk.entry.buckets (queried_samples series_query.now)
+        (filter (lets walk.entry) (between from to (queried_samples series_query.now)))) }
     ensures limit { T.limit result ≡ walk.entry.limit }
-    ensures seams { IsSeamed (pieces_asked question.now) from to steps.old steps.new }
+    ensures seams { IsSeamed (queried_pieces series_query.now) from to steps.old steps.new }
 {
-    let query = question.query;
+    let query = series_query.query;
     if query.times.is_some() || (!query.reverse && query.count.is_some()) {
-        return walked_in_shares(question, from, to, walk, steps);
+        return scan_in_batches(series_query, from, to, walk, steps);
     }
-    question.known();
-    question.visit(from, to, &mut walk, steps);
+    series_query.known();
+    series_query.visit(from, to, &mut walk, steps);
     walk.finish()
 }
 
 // The same in batches: before each batch it asks the scan which samples it still needs.
-fn walked_in_shares<T: Take, L: Ledger>(
-    question: &Question<'_>,
+fn scan_in_batches<T: RowSink, L: Ledger>(
+    series_query: &SeriesQuery<'_>,
     mut from: u64,
     mut to: u64,
-    mut walk: Walk<'_, T>,
+    mut walk: RowScan<'_, T>,
     steps: &mut Steps<L>,
 ) -> T
     requires none { walk.seen ≡ [] }
-    ensures rows { T.has result (rows_chosen walk.entry.buckets (samples_asked question.now) (filter (lets walk.entry) (between from to (samples_asked question.now)))) }
+    ensures rows { T.has result
+        (rows_passing walk.entry.buckets (queried_samples series_query.now)
+        (filter (lets walk.entry) (between from to (queried_samples series_query.now)))) }
     ensures limit { T.limit result ≡ walk.entry.limit }
-    ensures seams { IsSeamed (pieces_asked question.now) from to steps.old steps.new }
+    ensures seams { IsSeamed (queried_pieces series_query.now) from to steps.old steps.new }
 {
-    question.known();
-    while let Some((start, last)) = walk.wanted_part(from, to) {
-        let share = share_of(question, &walk, start, last);
-        question.visit(share.first, share.last, &mut walk, steps);
-        if share.end == last {
+    series_query.known();
+    while let Some((start, last)) = walk.part_to_scan(from, to) {
+        let scan_batch = scan_batch_of(series_query, &walk, start, last);
+        series_query.visit(scan_batch.first, scan_batch.last, &mut walk, steps);
+        if scan_batch.end == last {
             return walk.finish();
         }
         walk = match walk.finish_if_full() {
-            Ok(taker) => return taker,
+            Ok(row_sink) => return row_sink,
             Err(walk) => walk,
         };
-        from = share.end + 1;
+        from = scan_batch.end + 1;
         to = last;
     }
     walk.finish()
@@ -86,26 +90,34 @@ fn walked_in_shares<T: Take, L: Ledger>(
 // A batch of samples: the first and the last needed time in it, and its end. It ends where a chunk does, so no chunk is
 // decoded for two batches.
 #[derive(Clone, Copy)]
-struct Share {
+struct ScanBatch {
     first: u64,
     last: u64,
     end: u64,
 }
 
 // The batch from `start` on, of about `SHARE` samples, that ends no later than `last`.
-fn share_of<T: Take>(question: &Question<'_>, walk: &Walk<'_, T>, start: u64, last: u64) -> Share
+fn scan_batch_of<T: RowSink>(
+    series_query: &SeriesQuery<'_>,
+    walk: &RowScan<'_, T>,
+    start: u64,
+    last: u64,
+) -> ScanBatch
     requires ordered { start ≤ last }
-    ensures within { (start ≤ result.first) × (result.first ≤ result.last) × (result.last ≤ result.end) × (result.end ≤ last) }
-    ensures all { (ps : List Point) → filter (lets walk.now) (between result.first result.last ps) ≡ filter (lets walk.now) (between start result.end ps) }
-    ensures seam { (result.end ≡ last) ⊎ IsSeam (result.end + 1) (pieces_asked question.now) }
+    ensures within { (start ≤ result.first) × (result.first ≤ result.last) × (result.last ≤ result.end)
+        × (result.end ≤ last) }
+    ensures all { (ps : List Point)
+        → filter (lets walk.now) (between result.first result.last ps)
+        ≡ filter (lets walk.now) (between start result.end ps) }
+    ensures seam { (result.end ≡ last) ⊎ IsSeam (result.end + 1) (queried_pieces series_query.now) }
 {
-    let end = question.time_for(start, last, SHARE);
-    match walk.wanted_part(start, end) {
-        None => Share {
+    let end = series_query.end_for_count(start, last, SHARE);
+    match walk.part_to_scan(start, end) {
+        None => ScanBatch {
             first: start,
             last: end,
             end,
         },
-        Some((first, last)) => Share { first, last, end },
+        Some((first, last)) => ScanBatch { first, last, end },
     }
 }

@@ -8,21 +8,21 @@ use Rattle.std.proofs.lemmas.List.Elements.{All-nil, All-cons, All-head, All-tai
 use Rattle.ts_spec.specs.declared.bucket.Aggregator.TheVariants.{Last}
 use Rattle.ts_spec.specs.Sample.{Point, MAX_TIME, IsAscending, is_within, between, first_of, last_of}
 use Rattle.ts_spec.specs.Bucket.{Grid, start, members}
-use Rattle.ts_spec.specs.Answer.{Cell, Row, first_ones, bucket_row, cell_of, is_let_through, selected, rows, starts_between, turned}
+use Rattle.ts_spec.specs.Answer.{Cell, Row, limit_rows, bucket_row, cell_of, passes_filters, selected, rows, starts_between, in_requested_order}
 use Rattle.ts_spec.proofs.Buckets.{start-le}
 use Rattle.ts_spec.proofs.Samples.{ascending-times, ascending-filter}
 use Rattle.ts_sample.proofs.Between.{filter-filter}
 use Rattle.ts_bucket.proofs.Numbers.{number, start_number, apart}
 use Rattle.ts_range.specs.declared.query.Buckets.{Buckets}
 use Rattle.ts_range.specs.declared.query.Query.{Query}
-use Rattle.ts_range.specs.declared.stretch.Stretch.{Stretch}
+use Rattle.ts_range.specs.declared.bucket_range.BucketRange.{BucketRange}
 use Rattle.ts_range.specs.Empty.{empty_cell_of}
-use Rattle.ts_range.specs.Filling.{begun, filled, filled_line, row_at}
+use Rattle.ts_range.specs.FillPlan.{begun, filled, rows_with_gaps_filled, row_at}
 use Rattle.ts_range.specs.Query.{buckets_of, query_of}
 use Rattle.ts_range.specs.Starts.{starts_of, starts_within}
-use Rattle.ts_range.specs.Stretches.{IsPart, IsKnownBefore, IsStretchOf, IsStretchIn, IsFilledIn, filling_with}
+use Rattle.ts_range.specs.BucketRanges.{IsPart, IsKnownBefore, IsBucketRangeOf, IsBucketRangeIn, FillsGaps, fill_plan_with}
 use Rattle.ts_range.specs.BucketRows.{bucket_rows}
-use Rattle.ts_range.specs.Walk.{times_of, last_before}
+use Rattle.ts_range.specs.AskedSamples.{times_of, last_before}
 use Rattle.ts_range.proofs.Filtered.{filter-same, filter-swap, filter-all, map-same, after-all}
 use Rattle.ts_range.proofs.Gaps.{begin-mono, IsOnLine}
 use Rattle.ts_range.proofs.Later.{begin-past}
@@ -154,100 +154,100 @@ lets-all lets each ps = filter-all lets ps (all ps)
     all (p ∷ ps) = All-cons (λ p. lets p ≡ true) p ps (each p) (all ps)
 
 module _ (q : Query) (bs : Buckets) (is : q.buckets ≡ Some bs) (empty : bs.empty ≡ true) (some : 1 ≤ bs.grid.duration) (l : List Point) (rises : IsAscending l)
-    (ends : Option (ℕ × ℕ)) (around : ends ≡ times_of (first_of l) (last_of l)) (stretch : Stretch) (told : IsStretchOf q bs ends stretch)
-    (lets : Point → Bool) (agree : (p : Point) → lets p ≡ is_let_through (query_of q) p) where
+    (ends : Option (ℕ × ℕ)) (around : ends ≡ times_of (first_of l) (last_of l)) (bucket_range : BucketRange) (told : IsBucketRangeOf q bs ends bucket_range)
+    (lets : Point → Bool) (agree : (p : Point) → lets p ≡ passes_filters (query_of q) p) where
   in-ends : All (IsInside told.times) l
   in-ends = all-inside l told.times rises (sym told.are ∙ around)
 
-  same-rows : map (bucket_row (buckets_of bs) l (filter lets (between stretch.from stretch.to l))) (starts_between bs.grid stretch.from told.upto)
-      ≡ map (bucket_row (buckets_of bs) l (selected (query_of q) l)) (starts_between bs.grid stretch.from told.upto)
+  same-rows : map (bucket_row (buckets_of bs) l (filter lets (between bucket_range.from bucket_range.to l))) (starts_between bs.grid bucket_range.from told.upto)
+      ≡ map (bucket_row (buckets_of bs) l (selected (query_of q) l)) (starts_between bs.grid bucket_range.from told.upto)
   same-rows =
       let g = bs.grid in
-      let k = number g stretch.from in
+      let k = number g bucket_range.from in
       let n = suc (number g told.upto - k) in
-      let ps = filter lets (between stretch.from stretch.to l) in
+      let ps = filter lets (between bucket_range.from bucket_range.to l) in
       let ordered = told.part.ordered in
-      let mono = number-mono g some stretch.from told.upto ordered in
-      let line : starts_between g stretch.from told.upto ≡ map (begin g) (range_with_len k n) = between-is g some stretch.from told.upto ordered in
-      let all : filter lets (between q.from q.to l) ≡ selected (query_of q) l = filter_agree lets (is_let_through (query_of q)) agree (between q.from q.to l) in
-      map-same (bucket_row (buckets_of bs) l ps) (bucket_row (buckets_of bs) l (selected (query_of q) l)) (starts_between g stretch.from told.upto)
+      let mono = number-mono g some bucket_range.from told.upto ordered in
+      let line : starts_between g bucket_range.from told.upto ≡ map (begin g) (range_with_len k n) = between-is g some bucket_range.from told.upto ordered in
+      let all : filter lets (between q.from q.to l) ≡ selected (query_of q) l = filter_agree lets (passes_filters (query_of q)) agree (between q.from q.to l) in
+      map-same (bucket_row (buckets_of bs) l ps) (bucket_row (buckets_of bs) l (selected (query_of q) l)) (starts_between g bucket_range.from told.upto)
       (subst (All (λ (b : ℕ). bucket_row (buckets_of bs) l ps b ≡ bucket_row (buckets_of bs) l (selected (query_of q) l) b)) (sym line)
       (all-within g (λ (b : ℕ). bucket_row (buckets_of bs) l ps b ≡ bucket_row (buckets_of bs) l (selected (query_of q) l) b) n k
       (λ m low high. ap (λ (ms : List Point). row_at (buckets_of bs) (begin g m) (cell_of bs.agg (begin g m) l ms))
-      (part-members g some q.from q.to told.times stretch.from told.upto stretch.to told.part l in-ends lets m low (omega arith) ∙ ap (members g (begin g m)) all))))
+      (part-members g some q.from q.to told.times bucket_range.from told.upto bucket_range.to told.part l in-ends lets m low (omega arith) ∙ ap (members g (begin g m)) all))))
 
   -- those that are wanted, of the samples of the stretch
-  pub stretch-told : turned q.reverse (map (bucket_row (buckets_of bs) l (filter lets (between stretch.from stretch.to l))) (starts_of stretch.starts)) ≡ rows (query_of q) l
-  stretch-told =
-      ap (λ (xs : List ℕ). turned q.reverse (map (bucket_row (buckets_of bs) l (filter lets (between stretch.from stretch.to l))) xs)) told.starts
-      ∙ ap (turned q.reverse) (same-rows ∙ ap (map (bucket_row (buckets_of bs) l (selected (query_of q) l))) (sym told.starts))
+  pub bucket_range-told : in_requested_order q.reverse (map (bucket_row (buckets_of bs) l (filter lets (between bucket_range.from bucket_range.to l))) (starts_of bucket_range.starts)) ≡ rows (query_of q) l
+  bucket_range-told =
+      ap (λ (xs : List ℕ). in_requested_order q.reverse (map (bucket_row (buckets_of bs) l (filter lets (between bucket_range.from bucket_range.to l))) xs)) told.starts
+      ∙ ap (in_requested_order q.reverse) (same-rows ∙ ap (map (bucket_row (buckets_of bs) l (selected (query_of q) l))) (sym told.starts))
       ∙ sym (told.rows (bucket_row (buckets_of bs) l (selected (query_of q) l)))
       ∙ sym (rows-all (query_of q) l (buckets_of bs) (ap (option_map buckets_of) is) empty ends around)
 
   module _ (shows : bs.agg ≡ Last → (p : Point) → lets p ≡ true)
-      (first others : Cell) (says : first ≡ empty_cell_of bs.agg (last_before (start bs.grid stretch.from) l)) (say : others ≡ empty_cell_of bs.agg (last_before stretch.from l)) where
-    begins : begin bs.grid (number bs.grid stretch.from) ≡ start bs.grid stretch.from
-    begins = sym (start_number bs.grid some stretch.from)
+      (first others : Cell) (says : first ≡ empty_cell_of bs.agg (last_before (start bs.grid bucket_range.from) l)) (say : others ≡ empty_cell_of bs.agg (last_before bucket_range.from l)) where
+    begins : begin bs.grid (number bs.grid bucket_range.from) ≡ start bs.grid bucket_range.from
+    begins = sym (start_number bs.grid some bucket_range.from)
 
-    from-is : max stretch.from (begin bs.grid (number bs.grid stretch.from)) ≡ stretch.from
-    from-is = let e = start-le bs.grid stretch.from some in let f = begins in omega arith
+    from-is : max bucket_range.from (begin bs.grid (number bs.grid bucket_range.from)) ≡ bucket_range.from
+    from-is = let e = start-le bs.grid bucket_range.from some in let f = begins in omega arith
 
-    saying : IsSaying (buckets_of bs) l stretch.from stretch.to (number bs.grid stretch.from) first others (filter lets (between stretch.from stretch.to l))
+    saying : IsSaying (buckets_of bs) l bucket_range.from bucket_range.to (number bs.grid bucket_range.from) first others (filter lets (between bucket_range.from bucket_range.to l))
     saying = record {
       first = says ∙ ap (λ (t : ℕ). empty_cell_of bs.agg (last_before t l)) (sym begins);
       others = say ∙ ap (λ (t : ℕ). empty_cell_of bs.agg (last_before t l)) (sym from-is);
-      all = λ last. lets-all lets (shows last) (between stretch.from stretch.to l) ∙ ap (λ (t : ℕ). between t stretch.to l) (sym from-is);
+      all = λ last. lets-all lets (shows last) (between bucket_range.from bucket_range.to l) ∙ ap (λ (t : ℕ). between t bucket_range.to l) (sym from-is);
     }
 
-    filled-part : filled (buckets_of bs) first others (starts_between bs.grid stretch.from told.upto) (bucket_rows (begun (buckets_of bs)) l (filter lets (between stretch.from stretch.to l)))
-        ≡ map (bucket_row (buckets_of bs) l (filter lets (between stretch.from stretch.to l))) (starts_between bs.grid stretch.from told.upto)
+    filled-part : filled (buckets_of bs) first others (starts_between bs.grid bucket_range.from told.upto) (bucket_rows (begun (buckets_of bs)) l (filter lets (between bucket_range.from bucket_range.to l)))
+        ≡ map (bucket_row (buckets_of bs) l (filter lets (between bucket_range.from bucket_range.to l))) (starts_between bs.grid bucket_range.from told.upto)
     filled-part =
         let g = bs.grid in
-        let k = number g stretch.from in
+        let k = number g bucket_range.from in
         let n = suc (number g told.upto - k) in
-        let ps = filter lets (between stretch.from stretch.to l) in
+        let ps = filter lets (between bucket_range.from bucket_range.to l) in
         let ordered = told.part.ordered in
-        let mono = number-mono g some stretch.from told.upto ordered in
-        let line : starts_between g stretch.from told.upto ≡ map (begin g) (range_with_len k n) = between-is g some stretch.from told.upto ordered in
-        let upto : begin g (number g told.upto) ≤ stretch.to = (let e = start_number g some told.upto in let f = start-le g told.upto some in let r = told.part.reached in omega arith) in
+        let mono = number-mono g some bucket_range.from told.upto ordered in
+        let line : starts_between g bucket_range.from told.upto ≡ map (begin g) (range_with_len k n) = between-is g some bucket_range.from told.upto ordered in
+        let upto : begin g (number g told.upto) ≤ bucket_range.to = (let e = start_number g some told.upto in let f = start-le g told.upto some in let r = told.part.reached in omega arith) in
         ap (λ (xs : List ℕ). filled (buckets_of bs) first others xs (bucket_rows (begun (buckets_of bs)) l ps)) line
-        ∙ line-filled (buckets_of bs) some l rises stretch.from stretch.to stretch.from k (number g told.upto) (omega arith) (begin-past g some stretch.from (suc k) (omega arith)) upto n first others ps (omega arith)
-        (ascending-filter lets (between stretch.from stretch.to l) (ascending-times (is_within stretch.from stretch.to) l rises))
-        (part-on g some q.from q.to told.times stretch.from told.upto stretch.to told.part l in-ends lets q.to_fits) saying
+        ∙ line-filled (buckets_of bs) some l rises bucket_range.from bucket_range.to bucket_range.from k (number g told.upto) (omega arith) (begin-past g some bucket_range.from (suc k) (omega arith)) upto n first others ps (omega arith)
+        (ascending-filter lets (between bucket_range.from bucket_range.to l) (ascending-times (is_within bucket_range.from bucket_range.to) l rises))
+        (part-on g some q.from q.to told.times bucket_range.from told.upto bucket_range.to told.part l in-ends lets q.to_fits) saying
         ∙ ap (map (bucket_row (buckets_of bs) l ps)) (sym line)
 
     -- those of the buckets with samples, filled in
-    pub all-rows : turned q.reverse (filled (buckets_of bs) first others (starts_of stretch.starts) (bucket_rows (begun (buckets_of bs)) l (filter lets (between stretch.from stretch.to l)))) ≡ rows (query_of q) l
+    pub all-rows : in_requested_order q.reverse (filled (buckets_of bs) first others (starts_of bucket_range.starts) (bucket_rows (begun (buckets_of bs)) l (filter lets (between bucket_range.from bucket_range.to l)))) ≡ rows (query_of q) l
     all-rows =
-        ap (λ (xs : List ℕ). turned q.reverse (filled (buckets_of bs) first others xs (bucket_rows (begun (buckets_of bs)) l (filter lets (between stretch.from stretch.to l))))) told.starts
-        ∙ ap (turned q.reverse) (filled-part ∙ ap (map (bucket_row (buckets_of bs) l (filter lets (between stretch.from stretch.to l)))) (sym told.starts))
-        ∙ stretch-told
+        ap (λ (xs : List ℕ). in_requested_order q.reverse (filled (buckets_of bs) first others xs (bucket_rows (begun (buckets_of bs)) l (filter lets (between bucket_range.from bucket_range.to l))))) told.starts
+        ∙ ap (in_requested_order q.reverse) (filled-part ∙ ap (map (bucket_row (buckets_of bs) l (filter lets (between bucket_range.from bucket_range.to l)))) (sym told.starts))
+        ∙ bucket_range-told
 
 -- the same by the taker that is made for the stretch
-pub stretch-rows : (q : Query) (bs : Buckets) → IsFilledIn q bs → (l : List Point) → IsAscending l → (ends : Option (ℕ × ℕ)) → ends ≡ times_of (first_of l) (last_of l) → (stretch : Stretch) → IsStretchOf q bs ends stretch
-    → (lets : Point → Bool) → ((p : Point) → lets p ≡ is_let_through (query_of q) p) → (stretch.buckets.agg ≡ Last → (p : Point) → lets p ≡ true)
-    → (ahead prior : Option Point) → (stretch.buckets.agg ≡ Last → IsKnownBefore stretch l ahead prior)
-    → turned q.reverse (filled_line (filling_with stretch ahead prior) (bucket_rows (begun (buckets_of stretch.buckets)) l (filter lets (between stretch.from stretch.to l)))) ≡ rows (query_of q) l
-stretch-rows q bs fills l rises ends around stretch told lets agree shows ahead prior known =
+pub bucket_range-rows : (q : Query) (bs : Buckets) → FillsGaps q bs → (l : List Point) → IsAscending l → (ends : Option (ℕ × ℕ)) → ends ≡ times_of (first_of l) (last_of l) → (bucket_range : BucketRange) → IsBucketRangeOf q bs ends bucket_range
+    → (lets : Point → Bool) → ((p : Point) → lets p ≡ passes_filters (query_of q) p) → (bucket_range.buckets.agg ≡ Last → (p : Point) → lets p ≡ true)
+    → (ahead prior : Option Point) → (bucket_range.buckets.agg ≡ Last → IsKnownBefore bucket_range l ahead prior)
+    → in_requested_order q.reverse (rows_with_gaps_filled (fill_plan_with bucket_range ahead prior) (bucket_rows (begun (buckets_of bucket_range.buckets)) l (filter lets (between bucket_range.from bucket_range.to l)))) ≡ rows (query_of q) l
+bucket_range-rows q bs fills l rises ends around bucket_range told lets agree shows ahead prior known =
     let shows-all : bs.agg ≡ Last → (p : Point) → lets p ≡ true = λ last. shows (ap (λ (b : Buckets). b.agg) told.buckets ∙ last) in
-    let first : empty_cell_of bs.agg ahead ≡ empty_cell_of bs.agg (last_before (start bs.grid stretch.from) l) =
-    said-known bs.agg ahead (last_before (start bs.grid stretch.from) l)
-    (λ last. (known (ap (λ (b : Buckets). b.agg) told.buckets ∙ last)).first ∙ ap (λ (b : Buckets). last_before (start b.grid stretch.from) l) told.buckets) in
-    let others : empty_cell_of bs.agg prior ≡ empty_cell_of bs.agg (last_before stretch.from l) =
-    said-known bs.agg prior (last_before stretch.from l) (λ last. (known (ap (λ (b : Buckets). b.agg) told.buckets ∙ last)).others) in
-    ap (λ (b : Buckets). turned q.reverse (filled (buckets_of b) (empty_cell_of b.agg ahead) (empty_cell_of b.agg prior) (starts_of stretch.starts) (bucket_rows (begun (buckets_of b)) l (filter lets (between stretch.from stretch.to l))))) told.buckets
-    ∙ all-rows q bs fills.told fills.empty told.some l rises ends around stretch told lets agree shows-all (empty_cell_of bs.agg ahead) (empty_cell_of bs.agg prior) first others
+    let first : empty_cell_of bs.agg ahead ≡ empty_cell_of bs.agg (last_before (start bs.grid bucket_range.from) l) =
+    said-known bs.agg ahead (last_before (start bs.grid bucket_range.from) l)
+    (λ last. (known (ap (λ (b : Buckets). b.agg) told.buckets ∙ last)).first ∙ ap (λ (b : Buckets). last_before (start b.grid bucket_range.from) l) told.buckets) in
+    let others : empty_cell_of bs.agg prior ≡ empty_cell_of bs.agg (last_before bucket_range.from l) =
+    said-known bs.agg prior (last_before bucket_range.from l) (λ last. (known (ap (λ (b : Buckets). b.agg) told.buckets ∙ last)).others) in
+    ap (λ (b : Buckets). in_requested_order q.reverse (filled (buckets_of b) (empty_cell_of b.agg ahead) (empty_cell_of b.agg prior) (starts_of bucket_range.starts) (bucket_rows (begun (buckets_of b)) l (filter lets (between bucket_range.from bucket_range.to l))))) told.buckets
+    ∙ all-rows q bs fills.told fills.empty told.some l rises ends around bucket_range told lets agree shows-all (empty_cell_of bs.agg ahead) (empty_cell_of bs.agg prior) first others
 
 -- no row is wanted
-pub no-rows : (q : Query) (bs : Buckets) → IsFilledIn q bs → (l : List Point) (ends : Option (ℕ × ℕ)) → ends ≡ times_of (first_of l) (last_of l)
-    → ((f : ℕ → Row) → first_ones q.count (turned q.reverse (map f (starts_within bs.grid q.from q.to ends))) ≡ []) → rows (query_of q) l ≡ []
+pub no-rows : (q : Query) (bs : Buckets) → FillsGaps q bs → (l : List Point) (ends : Option (ℕ × ℕ)) → ends ≡ times_of (first_of l) (last_of l)
+    → ((f : ℕ → Row) → limit_rows q.count (in_requested_order q.reverse (map f (starts_within bs.grid q.from q.to ends))) ≡ []) → rows (query_of q) l ≡ []
 no-rows q bs fills l ends around none =
     rows-all (query_of q) l (buckets_of bs) (ap (option_map buckets_of) fills.told) fills.empty ends around ∙ none (bucket_row (buckets_of bs) l (selected (query_of q) l))
 
 -- what a walk hands on to that taker
-pub walked-rows : (q : Query) (l : List Point) (stretch : Stretch) → IsAscending l → IsStretchIn q l stretch
-    → (lets : Point → Bool) → ((p : Point) → lets p ≡ is_let_through (query_of q) p) → (stretch.buckets.agg ≡ Last → (p : Point) → lets p ≡ true)
-    → (ahead prior : Option Point) → (stretch.buckets.agg ≡ Last → IsKnownBefore stretch l ahead prior)
-    → turned q.reverse (filled_line (filling_with stretch ahead prior) (bucket_rows (begun (buckets_of stretch.buckets)) l (filter lets (between stretch.from stretch.to l)))) ≡ rows (query_of q) l
-walked-rows q l stretch rises is lets agree shows ahead prior known =
-    stretch-rows q is.buckets is.filled l rises (times_of (first_of l) (last_of l)) refl stretch is.is lets agree shows ahead prior known
+pub walked-rows : (q : Query) (l : List Point) (bucket_range : BucketRange) → IsAscending l → IsBucketRangeIn q l bucket_range
+    → (lets : Point → Bool) → ((p : Point) → lets p ≡ passes_filters (query_of q) p) → (bucket_range.buckets.agg ≡ Last → (p : Point) → lets p ≡ true)
+    → (ahead prior : Option Point) → (bucket_range.buckets.agg ≡ Last → IsKnownBefore bucket_range l ahead prior)
+    → in_requested_order q.reverse (rows_with_gaps_filled (fill_plan_with bucket_range ahead prior) (bucket_rows (begun (buckets_of bucket_range.buckets)) l (filter lets (between bucket_range.from bucket_range.to l)))) ≡ rows (query_of q) l
+walked-rows q l bucket_range rises is lets agree shows ahead prior known =
+    bucket_range-rows q is.buckets is.filled l rises (times_of (first_of l) (last_of l)) refl bucket_range is.is lets agree shows ahead prior known

@@ -7,7 +7,7 @@ use Rattle.std.proofs.lemmas.List.Elements.{filter_agree}
 use Rattle.ts_spec.specs.Sample.{Point, IsAscending, at_times, is_within, between, later_or, last_of}
 use Rattle.ts_spec.proofs.Samples.{ascending-times}
 use Rattle.ts_sample.proofs.Between.{filter-filter}
-use Rattle.ts_range.specs.Walk.{last_before}
+use Rattle.ts_range.specs.AskedSamples.{last_before}
 use Rattle.ts_range.proofs.Filtered.{parted}
 
 -- the last one is at the last place

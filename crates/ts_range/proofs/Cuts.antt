@@ -9,7 +9,7 @@ use Rattle.ts_spec.specs.Bucket.{Grid, start}
 use Rattle.ts_spec.specs.Answer.{Row}
 use Rattle.ts_spec.proofs.Buckets.{start-le}
 use Rattle.ts_sample.proofs.Lists.{ascending-right}
-use Rattle.ts_agg.specs.Tally.{Tells}
+use Rattle.ts_agg.specs.Tally.{IsTallyOf}
 use Rattle.ts_range.specs.declared.query.Buckets.{Buckets}
 use Rattle.ts_range.specs.declared.bucket.Bucket.{Bucket}
 use Rattle.ts_range.specs.Query.{buckets_of}
@@ -43,7 +43,7 @@ module _ (has : List Row → Type 0) (bs : Buckets) (o : Bucket) (ps : List Poin
 
   -- the row of the bucket is handed on
   pub closed : (has' : List Row → Type 0)
-      → ((qs : List Point) → Tells bs.agg o.tally qs → start bs.grid o.start ≡ o.start → (rows : List Row) → has rows → has' (rows ++ row_with (buckets_of bs) o.start qs ∷ []))
+      → ((qs : List Point) → IsTallyOf bs.agg o.tally qs → start bs.grid o.start ≡ o.start → (rows : List Row) → has rows → has' (rows ++ row_with (buckets_of bs) o.start qs ∷ []))
       → (asked : List Point) → has' (bucket_rows (buckets_of bs) asked ps)
   closed has' told asked =
       let more : bucket_rows (buckets_of bs) asked ps ≡ bucket_rows (buckets_of bs) asked is.early ++ row_with (buckets_of bs) o.start is.here ∷ [] =
@@ -61,7 +61,7 @@ module _ (has : List Row → Type 0) (bs : Buckets) (o : Bucket) (ps : List Poin
     from = not-before bs.grid some o.start is.here p is.tells.some is.inside here-rises
 
     -- it is in the bucket that is open
-    pub same : p.time ≤ o.last → (new : Bucket) → new.start ≡ o.start → new.last ≡ o.last → ((agg : Aggregator) (qs : List Point) → Tells agg o.tally qs → Tells agg new.tally (qs ++ p ∷ []))
+    pub same : p.time ≤ o.last → (new : Bucket) → new.start ≡ o.start → new.last ≡ o.last → ((agg : Aggregator) (qs : List Point) → IsTallyOf agg o.tally qs → IsTallyOf agg new.tally (qs ++ p ∷ []))
         → IsOpenAt has bs new (ps ++ p ∷ [])
     same upto new begins ends pushed =
         let b : start bs.grid p.time ≡ o.start = inside bs.grid some o.start o.last is.span.begins is.span.ends p.time from upto in
@@ -78,9 +78,9 @@ module _ (has : List Row → Type 0) (bs : Buckets) (o : Bucket) (ps : List Poin
         }
 
     -- it is past that bucket, whose row is handed on
-    pub next : o.last < p.time → p.time ≤ MAX_TIME → (new : Bucket) → (IsSpan bs.grid o.start o.last → IsSpan bs.grid new.start new.last) → (IsSpan bs.grid o.start o.last → new.start ≡ start bs.grid p.time) → Tells bs.agg new.tally (p ∷ [])
+    pub next : o.last < p.time → p.time ≤ MAX_TIME → (new : Bucket) → (IsSpan bs.grid o.start o.last → IsSpan bs.grid new.start new.last) → (IsSpan bs.grid o.start o.last → new.start ≡ start bs.grid p.time) → IsTallyOf bs.agg new.tally (p ∷ [])
         → (has' : List Row → Type 0)
-        → ((qs : List Point) → Tells bs.agg o.tally qs → start bs.grid o.start ≡ o.start → (rows : List Row) → has rows → has' (rows ++ row_with (buckets_of bs) o.start qs ∷ []))
+        → ((qs : List Point) → IsTallyOf bs.agg o.tally qs → start bs.grid o.start ≡ o.start → (rows : List Row) → has rows → has' (rows ++ row_with (buckets_of bs) o.start qs ∷ []))
         → IsOpenAt has' bs new (ps ++ p ∷ [])
     next past time new spans begins tells has' told =
         let span = spans is.span in
@@ -101,7 +101,7 @@ module _ (has : List Row → Type 0) (bs : Buckets) (o : Bucket) (ps : List Poin
         }
 
 -- it is the first one
-pub first : (has : List Row → Type 0) (bs : Buckets) (ps : List Point) (p : Point) → ps ≡ [] → has [] → (new : Bucket) → IsSpan bs.grid new.start new.last → new.start ≡ start bs.grid p.time → Tells bs.agg new.tally (p ∷ [])
+pub first : (has : List Row → Type 0) (bs : Buckets) (ps : List Point) (p : Point) → ps ≡ [] → has [] → (new : Bucket) → IsSpan bs.grid new.start new.last → new.start ≡ start bs.grid p.time → IsTallyOf bs.agg new.tally (p ∷ [])
     → IsOpenAt has bs new (ps ++ p ∷ [])
 first has bs ps p none empty new span at tells = record {
   early = [];

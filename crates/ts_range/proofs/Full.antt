@@ -15,7 +15,7 @@ use Rattle.ts_range.specs.declared.bucket.Bucket.{Bucket}
 use Rattle.ts_range.specs.Query.{buckets_of}
 use Rattle.ts_range.specs.BucketRows.{bucket_rows}
 use Rattle.ts_range.specs.Cutting.{IsCut}
-use Rattle.ts_range.specs.Walking.{AreWalked, rows_chosen}
+use Rattle.ts_range.specs.RowScanState.{AreScanned, rows_passing}
 use Rattle.ts_range.proofs.Filtered.{after-all}
 use Rattle.ts_range.proofs.Groups.{rows-append}
 
@@ -42,7 +42,7 @@ module _ (has : List Row → Type 0) (full : (rows more : List Row) → has rows
       subst has (sym all) (full (told is.early) (told (is.here ++ more)) (is.taken asked))
 
   -- the rows of all samples, of which some were handed on, and then more come
-  pub walk-full : (cut : Option Cutter) (chosen more asked : List Point) → IsAscending (chosen ++ more) → AreWalked has cut chosen
-      → has (rows_chosen (option_map (λ c. buckets_of c.buckets) cut) asked (chosen ++ more))
+  pub walk-full : (cut : Option Cutter) (chosen more asked : List Point) → IsAscending (chosen ++ more) → AreScanned has cut chosen
+      → has (rows_passing (option_map (λ c. buckets_of c.buckets) cut) asked (chosen ++ more))
   walk-full None chosen more asked rises walked = subst has (sym (map-append row_of chosen more)) (full (map row_of chosen) (map row_of more) walked)
   walk-full (Some c) chosen more asked rises walked = cut-full c.buckets c.current chosen more asked rises walked

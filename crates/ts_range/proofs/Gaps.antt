@@ -16,7 +16,7 @@ use Rattle.ts_spec.proofs.Samples.{ascending-times}
 use Rattle.ts_sample.proofs.Between.{filter-filter}
 use Rattle.ts_bucket.proofs.Numbers.{number, start_number}
 use Rattle.ts_range.specs.BucketRows.{bucket_rows}
-use Rattle.ts_range.specs.Filling.{said_after, row_at, begun, filled}
+use Rattle.ts_range.specs.FillPlan.{fill_value_after, row_at, begun, filled}
 use Rattle.ts_range.proofs.Filtered.{filter-same, map-same, parted}
 use Rattle.ts_range.proofs.Groups.{one_row, rows-append, rows-one, starts-all}
 use Rattle.ts_range.proofs.Later.{begin-later, begin-start}
@@ -43,21 +43,21 @@ cell_or bs now (p ∷ ps) = Number (aggregate bs.agg (p ∷ ps))
 -- what empty buckets say past it
 abbrev pub said_past : Buckets → Cell → List Point → Cell
 said_past bs later [] = later
-said_past bs later (p ∷ ps) = said_after bs.agg later (Number (aggregate bs.agg (p ∷ ps)))
+said_past bs later (p ∷ ps) = fill_value_after bs.agg later (Number (aggregate bs.agg (p ∷ ps)))
 
 module _ (bs : Buckets) where
   -- no row is given for it
   pub gap : (now later : Cell) (b : ℕ) (line : List ℕ) (rows : List Row) → All (λ r. b < r.time) rows → filled bs now later (b ∷ line) rows ≡ row_at bs b now ∷ filled bs later later line rows
   gap now later b line [] h = refl
   gap now later b line (r ∷ rows) h =
-      ap (λ (x : Bool). if x then row_at bs b now ∷ filled bs later later line (r ∷ rows) else row_at bs b r.value ∷ filled bs (said_after bs.agg later r.value) (said_after bs.agg later r.value) line rows)
+      ap (λ (x : Bool). if x then row_at bs b now ∷ filled bs later later line (r ∷ rows) else row_at bs b r.value ∷ filled bs (fill_value_after bs.agg later r.value) (fill_value_after bs.agg later r.value) line rows)
       (lt-ltb b r.time (All-head (λ (r : Row). b < r.time) r rows h))
 
   -- one is given for it
   pub here : (now later : Cell) (b : ℕ) (line : List ℕ) (r : Row) (rows : List Row) → r.time ≤ b
-      → filled bs now later (b ∷ line) (r ∷ rows) ≡ row_at bs b r.value ∷ filled bs (said_after bs.agg later r.value) (said_after bs.agg later r.value) line rows
+      → filled bs now later (b ∷ line) (r ∷ rows) ≡ row_at bs b r.value ∷ filled bs (fill_value_after bs.agg later r.value) (fill_value_after bs.agg later r.value) line rows
   here now later b line r rows le =
-      ap (λ (x : Bool). if x then row_at bs b now ∷ filled bs later later line (r ∷ rows) else row_at bs b r.value ∷ filled bs (said_after bs.agg later r.value) (said_after bs.agg later r.value) line rows)
+      ap (λ (x : Bool). if x then row_at bs b now ∷ filled bs later later line (r ∷ rows) else row_at bs b r.value ∷ filled bs (fill_value_after bs.agg later r.value) (fill_value_after bs.agg later r.value) line rows)
       (le-ltb b r.time le)
 
   -- its samples are these
@@ -190,10 +190,10 @@ module _ (bs : Buckets) (some : 1 ≤ bs.grid.duration) (l : List Point) (lo fir
               grind (arith, nat_tests)
         ]
 
-  pub fill-line : (n k : ℕ) (now later : Cell) (ps : List Point) → first ≤ k → k + n ≡ suc last → IsAscending ps → All (IsOnLine bs.grid k last) ps → (k ≤ last → J k now later ps)
+  pub emit_empty-line : (n k : ℕ) (now later : Cell) (ps : List Point) → first ≤ k → k + n ≡ suc last → IsAscending ps → All (IsOnLine bs.grid k last) ps → (k ≤ last → J k now later ps)
       → filled bs now later (map (begin bs.grid) (range_with_len k n)) (bucket_rows (begun bs) l ps) ≡ map (bucket_row bs l ps) (map (begin bs.grid) (range_with_len k n))
-  fill-line zero k now later ps from end rises on j = refl
-  fill-line (suc n) k now later ps from end rises on j =
+  emit_empty-line zero k now later ps from end rises on j = refl
+  emit_empty-line (suc n) k now later ps from end rises on j =
       let g = bs.grid in
       let b = begin g k in
       let xs = upto g k ps in
@@ -202,7 +202,7 @@ module _ (bs : Buckets) (some : 1 ≤ bs.grid.duration) (l : List Point) (lo fir
       let said = said_past bs later xs in
       let one : k + 1 ≡ suc k = omega arith in
       let rest : filled bs said said line (bucket_rows (begun bs) l ys) ≡ map (bucket_row bs l ys) line =
-      fill-line n (k + 1) said said ys (omega arith) (omega arith) (ascending-times (λ t. not (nat_lt (number g t) (suc k))) ps rises)
+      emit_empty-line n (k + 1) said said ys (omega arith) (omega arith) (ascending-times (λ t. not (nat_lt (number g t) (suc k))) ps rises)
       (subst (λ (m : ℕ). All (IsOnLine g m last) ys) (sym one) (past-on k from ps rises on))
       (λ le. subst (λ (m : ℕ). J m said said ys) (sym one) (goes k now later ps from (omega arith) rises (j (omega arith)))) in
       let others : map (bucket_row bs l ys) line ≡ map (bucket_row bs l ps) line =

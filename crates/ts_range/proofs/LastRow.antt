@@ -10,12 +10,12 @@ use Rattle.ts_spec.specs.Bucket.{start, members}
 use Rattle.ts_spec.specs.Answer.{Cell, Number, Row}
 use Rattle.ts_spec.proofs.Buckets.{start-le, start-mono}
 use Rattle.ts_bucket.proofs.Numbers.{number, start_number}
-use Rattle.ts_range.specs.declared.filling.Place.{Place}
+use Rattle.ts_range.specs.declared.fill_plan.Place.{Place}
 use Rattle.ts_range.specs.declared.last_values.Current.{Current}
-use Rattle.ts_range.specs.Filling.{row_at, said_of, said_now}
-use Rattle.ts_range.specs.LastValues.{LastValues, with_one, counts, value_of, is_first, said_before, last_row, last_rows, IsLine, IsOpenWith}
+use Rattle.ts_range.specs.FillPlan.{row_at, value_or_fill, fill_value_at}
+use Rattle.ts_range.specs.LastValues.{LastValues, with_one, counts, value_of, is_first, fill_value_before, last_row, last_rows, IsLine, IsOpenWith}
 use Rattle.ts_range.specs.Query.{cell_of}
-use Rattle.ts_range.specs.Walk.{last_before}
+use Rattle.ts_range.specs.AskedSamples.{last_before}
 use Rattle.ts_range.proofs.Around.{last-append}
 use Rattle.ts_sample.proofs.Lists.{ascending-left}
 use Rattle.ts_range.proofs.Filtered.{filter-none, filter-all, map-same, after-all}
@@ -64,22 +64,22 @@ module _ (lo hi : ℕ) (v : LastValues) (line : IsLine lo hi v) where
   -- ---- what an empty bucket says
 
   says-now : (told b : ℕ) (last : Option Cell) → slice_get v.filling.starts told ≡ Some b → last ≡ value_of (last_before b v.seen)
-      → said_now told v.filling.first (said_of v.filling.others last) ≡ said_before (is_first v.filling.starts b) v b
-  says-now zero b last is before = sym (ap (λ (x : Bool). said_before x v b) (first-at-zero v.filling.starts b is))
+      → fill_value_at told v.filling.first (value_or_fill v.filling.others last) ≡ fill_value_before (is_first v.filling.starts b) v b
+  says-now zero b last is before = sym (ap (λ (x : Bool). fill_value_before x v b) (first-at-zero v.filling.starts b is))
   says-now (suc told) b last is before =
-      ap (said_of v.filling.others) before
-      ∙ sym (ap (λ (x : Bool). said_before x v b) (first-not v.filling.starts b (λ c at. later-start 0 (suc told) c b (omega arith) at is)))
+      ap (value_or_fill v.filling.others) before
+      ∙ sym (ap (λ (x : Bool). fill_value_before x v b) (first-not v.filling.starts b (λ c at. later-start 0 (suc told) c b (omega arith) at is)))
 
   -- the row of the bucket that is open
   pub row-told : (has has' : List Row → Type 0) (current : Current) (b : ℕ) → slice_get v.filling.starts current.place.told ≡ Some b → IsOpenWith has v current b
       → (row : Row) → ((rows : List Row) → has rows → has' (rows ++ row ∷ []))
-      → row ≡ row_at v.filling.buckets b (said_of (said_now current.place.told v.filling.first (said_of v.filling.others (option_map cell_of current.place.last))) (option_map cell_of current.chosen))
+      → row ≡ row_at v.filling.buckets b (value_or_fill (fill_value_at current.place.told v.filling.first (value_or_fill v.filling.others (option_map cell_of current.place.last))) (option_map cell_of current.chosen))
       → has' (take (current.place.told + 1) (last_rows v))
   row-told has has' current b is known row taken told =
       let same : row ≡ last_row v b =
       told
-      ∙ ap (λ (x : Cell). row_at v.filling.buckets b (said_of x (option_map cell_of current.chosen))) (says-now current.place.told b (option_map cell_of current.place.last) is known.before)
-      ∙ ap (λ (o : Option Cell). row_at v.filling.buckets b (said_of (said_before (is_first v.filling.starts b) v b) o)) known.chosen in
+      ∙ ap (λ (x : Cell). row_at v.filling.buckets b (value_or_fill x (option_map cell_of current.chosen))) (says-now current.place.told b (option_map cell_of current.place.last) is known.before)
+      ∙ ap (λ (o : Option Cell). row_at v.filling.buckets b (value_or_fill (fill_value_before (is_first v.filling.starts b) v b) o)) known.chosen in
       subst has' (ap (λ (r : Row). take current.place.told (last_rows v) ++ r ∷ []) same ∙ sym (row-more (last_row v) v.filling.starts current.place.told b is)) (taken (take current.place.told (last_rows v)) known.taken)
 
   -- ---- the next bucket
@@ -211,17 +211,17 @@ module _ (lo hi : ℕ) (v : LastValues) (line : IsLine lo hi v) (p : Point) wher
         ∙ ap (λ (x : Bool). members v.filling.buckets.grid c (filter (counts v) v.seen) ++ cond (counts v p) (cond x (p ∷ []) []) []) none
         ∙ ap (λ (ps : List Point). members v.filling.buckets.grid c (filter (counts v) v.seen) ++ ps) (nothing (counts v p))
         ∙ append-nil (members v.filling.buckets.grid c (filter (counts v) v.seen)) in
-        let said : said_before (is_first v.filling.starts c) v c ≡ said_before (is_first v.filling.starts c) (with_one v p) c = says-same (is_first v.filling.starts c) c (omega arith) in
-        ap (λ (x : Cell). row_at v.filling.buckets c (said_of x (value_of (last_of (members v.filling.buckets.grid c (filter (counts v) v.seen)))))) said
-        ∙ ap (λ (ps : List Point). row_at v.filling.buckets c (said_of (said_before (is_first v.filling.starts c) (with_one v p) c) (value_of (last_of ps)))) (sym kept)
+        let said : fill_value_before (is_first v.filling.starts c) v c ≡ fill_value_before (is_first v.filling.starts c) (with_one v p) c = says-same (is_first v.filling.starts c) c (omega arith) in
+        ap (λ (x : Cell). row_at v.filling.buckets c (value_or_fill x (value_of (last_of (members v.filling.buckets.grid c (filter (counts v) v.seen)))))) said
+        ∙ ap (λ (ps : List Point). row_at v.filling.buckets c (value_or_fill (fill_value_before (is_first v.filling.starts c) (with_one v p) c) (value_of (last_of ps)))) (sym kept)
       where
         nothing : (x : Bool) → nothing-of x ≡ []
         nothing true = refl
         nothing false = refl
 
-        says-same : (first : Bool) (c : ℕ) → c ≤ p.time → said_before first v c ≡ said_before first (with_one v p) c
+        says-same : (first : Bool) (c : ℕ) → c ≤ p.time → fill_value_before first v c ≡ fill_value_before first (with_one v p) c
         says-same true c le = refl
-        says-same false c le = ap (λ (o : Option Point). said_of v.filling.others (value_of o)) (sym (before-same c v.seen p le))
+        says-same false c le = ap (λ (o : Option Point). value_or_fill v.filling.others (value_of o)) (sym (before-same c v.seen p le))
 
     chosen-is : (chosen : Option Cell) → chosen ≡ value_of (last_of (members v.filling.buckets.grid b (filter (counts v) v.seen))) → (x : Bool) → counts v p ≡ x
         → cond x (Some (Number p.value)) chosen ≡ value_of (last_of (members v.filling.buckets.grid b (filter (counts v) (v.seen ++ p ∷ []))))
@@ -240,9 +240,9 @@ module _ (lo hi : ℕ) (v : LastValues) (line : IsLine lo hi v) (p : Point) wher
         ∙ ap (λ (x : Bool). ms ++ cond x (cond (start v.filling.buckets.grid p.time == b) (p ∷ []) []) []) hides
         ∙ append-nil ms))
 
-    pub put-one : (has : List Row → Type 0) → IsOpenWith has v current b → (next : Current) → next.place ≡ current.place → option_map cell_of next.latest ≡ Some (Number p.value)
+    pub set_last_value-one : (has : List Row → Type 0) → IsOpenWith has v current b → (next : Current) → next.place ≡ current.place → option_map cell_of next.latest ≡ Some (Number p.value)
         → option_map cell_of next.chosen ≡ cond (counts v p) (Some (Number p.value)) (option_map cell_of current.chosen) → IsOpenWith has (with_one v p) next b
-    put-one has known next place latest chosen =
+    set_last_value-one has known next place latest chosen =
         let rows : take current.place.told (last_rows v) ≡ take next.place.told (last_rows (with_one v p)) =
         sym (map-take (last_row v) current.place.told v.filling.starts)
         ∙ map-same (last_row v) (last_row (with_one v p)) (take current.place.told v.filling.starts)

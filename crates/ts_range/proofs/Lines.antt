@@ -8,7 +8,7 @@ use Rattle.ts_spec.specs.declared.bucket.Aggregator.TheVariants.{Avg, Sum, Min, 
 use Rattle.ts_spec.specs.Sample.{Point, first_of, last_of}
 use Rattle.ts_spec.specs.Answer.{Row, empty_cell}
 use Rattle.ts_range.specs.Empty.{empty_cell_of}
-use Rattle.ts_range.specs.Walk.{times_of, last_before}
+use Rattle.ts_range.specs.AskedSamples.{times_of, last_before}
 
 -- ---- cells
 

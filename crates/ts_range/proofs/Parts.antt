@@ -7,12 +7,12 @@ use Rattle.std.proofs.lemmas.List.{take-append-drop, take-append-le, take_all, r
 use Rattle.std.proofs.lemmas.List.FromFn.{take-map-range_with_len}
 use Rattle.ts_spec.specs.Sample.{MAX_TIME}
 use Rattle.ts_spec.specs.Bucket.{Grid, start}
-use Rattle.ts_spec.specs.Answer.{Row, starts_between, first_ones, turned}
+use Rattle.ts_spec.specs.Answer.{Row, starts_between, limit_rows, in_requested_order}
 use Rattle.ts_spec.proofs.Buckets.{start-le, start-mono}
 use Rattle.ts_bucket.specs.Grid.{IsLastOf}
 use Rattle.ts_bucket.proofs.Numbers.{number, start_number}
-use Rattle.ts_range.specs.Stretches.{IsPart}
-use Rattle.ts_range.specs.Walk.{most_of}
+use Rattle.ts_range.specs.BucketRanges.{IsPart}
+use Rattle.ts_range.specs.AskedSamples.{most_of}
 use Rattle.ts_range.proofs.Gaps.{begin-mono}
 use Rattle.ts_range.proofs.Later.{begin-past, number-begin, begin-start}
 use Rattle.ts_range.proofs.Line.{begin, between-is}
@@ -42,14 +42,14 @@ pub most-within : (count : Option ℕ) (n : ℕ) → most_of count n ≤ n
 most-within None n = omega arith
 most-within (Some c) n = omega arith
 
-length-turned : (r : Bool) (rows : List Row) → length (turned r rows) ≡ length rows
-length-turned true rows = length-reverse rows
-length-turned false rows = refl
+length-in_requested_order : (r : Bool) (rows : List Row) → length (in_requested_order r rows) ≡ length rows
+length-in_requested_order true rows = length-reverse rows
+length-in_requested_order false rows = refl
 
 module _ (g : Grid) (some : 1 ≤ g.duration) (lo hi : ℕ) (le : lo ≤ hi) where
   module _ (count : Option ℕ) (r : Bool) (f : ℕ → Row) where
-    wanted : first_ones count (turned r (map f (starts_between g lo hi))) ≡ take (most_of count (length (starts_between g lo hi))) (turned r (map f (starts_between g lo hi)))
-    wanted = sym (first_rows count (length (starts_between g lo hi)) (turned r (map f (starts_between g lo hi))) (omega (arith, length-turned r (map f (starts_between g lo hi)), length-map (starts_between g lo hi) f)))
+    wanted : limit_rows count (in_requested_order r (map f (starts_between g lo hi))) ≡ take (most_of count (length (starts_between g lo hi))) (in_requested_order r (map f (starts_between g lo hi)))
+    wanted = sym (first_rows count (length (starts_between g lo hi)) (in_requested_order r (map f (starts_between g lo hi))) (omega (arith, length-in_requested_order r (map f (starts_between g lo hi)), length-map (starts_between g lo hi) f)))
 
   -- ---- some buckets, the first ones
 
@@ -89,7 +89,7 @@ module _ (g : Grid) (some : 1 ≤ g.duration) (lo hi : ℕ) (le : lo ≤ hi) whe
         ∙ ap (λ (k : ℕ). map (begin g) (range_with_len (number g lo) k)) (let e : w ≡ suc (number g (max lo b) - number g lo) = omega (arith, number-upto) in e)
         ∙ sym (between-is g some lo (max lo b) (omega arith))
 
-    pub first-wanted : (count : Option ℕ) (f : ℕ → Row) → w ≡ most_of count (length (starts_between g lo hi)) → first_ones count (map f (starts_between g lo hi)) ≡ map f (starts_between g lo (max lo b))
+    pub first-wanted : (count : Option ℕ) (f : ℕ → Row) → w ≡ most_of count (length (starts_between g lo hi)) → limit_rows count (map f (starts_between g lo hi)) ≡ map f (starts_between g lo (max lo b))
     first-wanted count f same =
         wanted count false f ∙ ap (λ (k : ℕ). take k (map f (starts_between g lo hi))) (sym same)
         ∙ sym (map-take f w (starts_between g lo hi)) ∙ ap (map f) first-starts
@@ -134,7 +134,7 @@ module _ (g : Grid) (some : 1 ≤ g.duration) (lo hi : ℕ) (le : lo ≤ hi) whe
         ∙ sym (between-is g some b hi from-within)
 
     pub last-wanted : (count : Option ℕ) (f : ℕ → Row) → k + most_of count (length (starts_between g lo hi)) ≡ length (starts_between g lo hi)
-        → first_ones count (reverse (map f (starts_between g lo hi))) ≡ reverse (map f (starts_between g b hi))
+        → limit_rows count (reverse (map f (starts_between g lo hi))) ≡ reverse (map f (starts_between g b hi))
     last-wanted count f parts =
         let all = starts_between g lo hi in
         wanted count true f

@@ -3,8 +3,8 @@ use Rattle.std.proofs.Common.{◌≡◌, ℕ, zero, suc, List, [], ◌∷◌, �
 use Rattle.std.specs.Prelude.{reverse, Option, None, Some}
 use Rattle.std.proofs.lemmas.Bool.{cases_lt}
 use Rattle.std.proofs.lemmas.List.{map-append, reverse-append, take_all}
-use Rattle.ts_spec.specs.Answer.{Row, first_ones}
-use Rattle.ts_range.specs.Walk.{most_of}
+use Rattle.ts_spec.specs.Answer.{Row, limit_rows}
+use Rattle.ts_range.specs.AskedSamples.{most_of}
 
 pub map-reverse : {X Y : Type 0} (f : X → Y) (xs : List X) → map f (reverse xs) ≡ reverse (map f xs)
 map-reverse f [] = refl
@@ -23,6 +23,6 @@ take_least n m xs short = go (cases_lt m n)
     go (inl less) = ap (λ k. take k xs) (omega arith)
     go (inr more) = take_all (min n m) xs (omega arith) ∙ sym (take_all m xs (omega arith))
 
-pub first_rows : (count : Option ℕ) (n : ℕ) (rows : List Row) → length rows ≤ n → take (most_of count n) rows ≡ first_ones count rows
+pub first_rows : (count : Option ℕ) (n : ℕ) (rows : List Row) → length rows ≤ n → take (most_of count n) rows ≡ limit_rows count rows
 first_rows None n rows short = take_all n rows short
 first_rows (Some m) n rows short = take_least n m rows short

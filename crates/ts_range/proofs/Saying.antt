@@ -16,11 +16,11 @@ use Rattle.ts_spec.proofs.Buckets.{start-le}
 use Rattle.ts_sample.proofs.Between.{filter-filter}
 use Rattle.ts_bucket.proofs.Numbers.{number, start_number, passed}
 use Rattle.ts_range.specs.Empty.{empty_cell_of}
-use Rattle.ts_range.specs.Filling.{said_after, begun, filled}
+use Rattle.ts_range.specs.FillPlan.{fill_value_after, begun, filled}
 use Rattle.ts_range.specs.BucketRows.{bucket_rows}
-use Rattle.ts_range.specs.Walk.{last_before}
+use Rattle.ts_range.specs.AskedSamples.{last_before}
 use Rattle.ts_range.proofs.Around.{before-is}
-use Rattle.ts_range.proofs.Gaps.{said_past, upto, past, IsOnLine, begin-mono, fill-line}
+use Rattle.ts_range.proofs.Gaps.{said_past, upto, past, IsOnLine, begin-mono, emit_empty-line}
 use Rattle.ts_range.proofs.Later.{after-align}
 use Rattle.ts_range.proofs.Line.{begin}
 use Rattle.ts_range.proofs.Lines.{empty-told}
@@ -29,7 +29,7 @@ use Rattle.ts_range.proofs.Lines.{empty-told}
 
 -- what it says of a bucket doesn't depend on other buckets
 record IsAlone (a : Aggregator) : Type 0 where
-  same : (said value : Cell) → said_after a said value ≡ said
+  same : (said value : Cell) → fill_value_after a said value ≡ said
   alike : (o u : Option Point) → empty_cell_of a o ≡ empty_cell_of a u
 
 last-or-alone : (a : Aggregator) → (a ≡ Last) ⊎ IsAlone a
@@ -61,7 +61,7 @@ said-alone bs alone later (x ∷ xs) = alone.same later (Number (aggregate bs.ag
 said-last : (bs : Buckets) → bs.agg ≡ Last → (o : Option Point) (later : Cell) (xs : List Point) → later ≡ last_value o → said_past bs later xs ≡ last_value (option_or (last_of xs) o)
 said-last bs last o later [] is = is
 said-last bs last o later (x ∷ xs) is =
-    ap (λ (a : Aggregator). said_after a later (Number (aggregate a (x ∷ xs)))) last ∙ ap (λ (v : ℤ). Number v) (last-pushed nothing x xs)
+    ap (λ (a : Aggregator). fill_value_after a later (Number (aggregate a (x ∷ xs)))) last ∙ ap (λ (v : ℤ). Number v) (last-pushed nothing x xs)
 
 -- ---- the line
 
@@ -145,4 +145,4 @@ module _ (bs : Buckets) (some : 1 ≤ bs.grid.duration) (l : List Point) (rises 
   pub line-filled : (n : ℕ) (now later : Cell) (ps : List Point) → first + n ≡ suc last → IsAscending ps → All (IsOnLine bs.grid first last) ps → IsSaying bs l from to first now later ps
       → filled bs now later (map (begin bs.grid) (range_with_len first n)) (bucket_rows (begun bs) l ps) ≡ map (bucket_row bs l ps) (map (begin bs.grid) (range_with_len first n))
   line-filled n now later ps end up on is =
-      fill-line bs some l lo first last base (IsSaying bs l from to) says (λ k now later ps low high rises is. goes k low high now later ps is) n first now later ps (omega arith) end up on (λ le. is)
+      emit_empty-line bs some l lo first last base (IsSaying bs l from to) says (λ k now later ps low high rises is. goes k low high now later ps is) n first now later ps (omega arith) end up on (λ le. is)

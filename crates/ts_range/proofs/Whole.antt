@@ -5,18 +5,18 @@ use Rattle.std.proofs.lemmas.List.Elements.{filter_agree}
 use Rattle.ts_spec.specs.Sample.{Point, between, first_of, last_of}
 use Rattle.ts_spec.specs.Bucket.{Grid, starts}
 use Rattle.ts_spec.specs.Command.{Query, Buckets}
-use Rattle.ts_spec.specs.Answer.{row_of, is_let_through, selected, bucket_row, ends_between, turned, first_ones, rows, rows_of, tells_empty, answer}
+use Rattle.ts_spec.specs.Answer.{row_of, passes_filters, selected, bucket_row, starts_with_empty, in_requested_order, limit_rows, rows, rows_of, includes_empty, answer}
 use Rattle.ts_range.specs.declared.query.Buckets.{Buckets as Grouped}
 use Rattle.ts_range.specs.declared.query.Query.{Query as Question}
 use Rattle.ts_range.specs.Query.{buckets_of}
 use Rattle.ts_range.specs.Starts.{starts_within}
-use Rattle.ts_range.specs.Stretches.{IsFilledIn}
+use Rattle.ts_range.specs.BucketRanges.{FillsGaps}
 use Rattle.ts_range.specs.BucketRows.{bucket_rows}
-use Rattle.ts_range.specs.Walk.{times_of}
-use Rattle.ts_range.specs.Walking.{rows_chosen}
+use Rattle.ts_range.specs.AskedSamples.{times_of}
+use Rattle.ts_range.specs.RowScanState.{rows_passing}
 
 -- where no buckets are filled in, no empty ones are told
-pub none-filled : (q : Question) → ((bs : Grouped) → IsFilledIn q bs → ⊥) → (o : Option Grouped) → q.buckets ≡ o → tells_empty (option_map buckets_of o) ≡ false
+pub none-filled : (q : Question) → ((bs : Grouped) → FillsGaps q bs → ⊥) → (o : Option Grouped) → q.buckets ≡ o → includes_empty (option_map buckets_of o) ≡ false
 none-filled q none None is = refl
 none-filled q none (Some bs) is = go bs.empty refl
   where
@@ -24,55 +24,55 @@ none-filled q none (Some bs) is = go bs.empty refl
     go true e = absurd (none bs (record { told = is; empty = e }))
     go false e = e
 
-ends-within : (g : Grid) (from to : ℕ) (first last : Option Point) → ends_between g from to first last ≡ starts_within g from to (times_of first last)
+ends-within : (g : Grid) (from to : ℕ) (first last : Option Point) → starts_with_empty g from to first last ≡ starts_within g from to (times_of first last)
 ends-within g from to None last = refl
 ends-within g from to (Some p) None = refl
 ends-within g from to (Some p) (Some q) = refl
 
 module _ (q : Query) (l : List Point) where
   -- without buckets
-  pub rows-single : q.buckets ≡ None → rows q l ≡ first_ones q.count (turned q.reverse (map row_of (selected q l)))
-  rows-single is = ap (λ (o : Option Buckets). first_ones q.count (turned q.reverse (rows_of o q l))) is
+  pub rows-single : q.buckets ≡ None → rows q l ≡ limit_rows q.count (in_requested_order q.reverse (map row_of (selected q l)))
+  rows-single is = ap (λ (o : Option Buckets). limit_rows q.count (in_requested_order q.reverse (rows_of o q l))) is
 
   module _ (bs : Buckets) (is : q.buckets ≡ Some bs) where
-    with-buckets : rows q l ≡ first_ones q.count (turned q.reverse (rows_of (Some bs) q l))
-    with-buckets = ap (λ (o : Option Buckets). first_ones q.count (turned q.reverse (rows_of o q l))) is
+    with-buckets : rows q l ≡ limit_rows q.count (in_requested_order q.reverse (rows_of (Some bs) q l))
+    with-buckets = ap (λ (o : Option Buckets). limit_rows q.count (in_requested_order q.reverse (rows_of o q l))) is
 
     -- of the buckets with samples
-    pub rows-told : bs.empty ≡ false → rows q l ≡ first_ones q.count (turned q.reverse (bucket_rows bs l (selected q l)))
+    pub rows-told : bs.empty ≡ false → rows q l ≡ limit_rows q.count (in_requested_order q.reverse (bucket_rows bs l (selected q l)))
     rows-told full =
         with-buckets
-        ∙ ap (λ (b : Bool). first_ones q.count (turned q.reverse (map (bucket_row bs l (selected q l)) (if b then ends_between bs.grid q.from q.to (first_of l) (last_of l) else starts bs.grid (selected q l))))) full
+        ∙ ap (λ (b : Bool). limit_rows q.count (in_requested_order q.reverse (map (bucket_row bs l (selected q l)) (if b then starts_with_empty bs.grid q.from q.to (first_of l) (last_of l) else starts bs.grid (selected q l))))) full
 
     -- of all buckets
     pub rows-all : bs.empty ≡ true → (ends : Option (ℕ × ℕ)) → ends ≡ times_of (first_of l) (last_of l)
-        → rows q l ≡ first_ones q.count (turned q.reverse (map (bucket_row bs l (selected q l)) (starts_within bs.grid q.from q.to ends)))
+        → rows q l ≡ limit_rows q.count (in_requested_order q.reverse (map (bucket_row bs l (selected q l)) (starts_within bs.grid q.from q.to ends)))
     rows-all empty ends around =
         with-buckets
-        ∙ ap (λ (b : Bool). first_ones q.count (turned q.reverse (map (bucket_row bs l (selected q l)) (if b then ends_between bs.grid q.from q.to (first_of l) (last_of l) else starts bs.grid (selected q l))))) empty
-        ∙ ap (λ (xs : List ℕ). first_ones q.count (turned q.reverse (map (bucket_row bs l (selected q l)) xs)))
+        ∙ ap (λ (b : Bool). limit_rows q.count (in_requested_order q.reverse (map (bucket_row bs l (selected q l)) (if b then starts_with_empty bs.grid q.from q.to (first_of l) (last_of l) else starts bs.grid (selected q l))))) empty
+        ∙ ap (λ (xs : List ℕ). limit_rows q.count (in_requested_order q.reverse (map (bucket_row bs l (selected q l)) xs)))
         (ends-within bs.grid q.from q.to (first_of l) (last_of l) ∙ ap (starts_within bs.grid q.from q.to) (sym around))
 
   -- of each sample, or of the buckets with samples
-  pub chosen-rows : (o : Option Buckets) → q.buckets ≡ o → tells_empty o ≡ false → rows q l ≡ first_ones q.count (turned q.reverse (rows_chosen o l (selected q l)))
+  pub chosen-rows : (o : Option Buckets) → q.buckets ≡ o → includes_empty o ≡ false → rows q l ≡ limit_rows q.count (in_requested_order q.reverse (rows_passing o l (selected q l)))
   chosen-rows None is full = rows-single is
   chosen-rows (Some bs) is full = rows-told bs is full
 
   -- what a walk hands on is the answer, where the first row comes first and empty buckets are not told
-  pub walk-rows : (test : Point → Bool) → ((p : Point) → test p ≡ is_let_through q p) → q.reverse ≡ false → tells_empty q.buckets ≡ false
-      → first_ones q.count (rows_chosen q.buckets l (filter test (between q.from q.to l))) ≡ rows q l
+  pub walk-rows : (test : Point → Bool) → ((p : Point) → test p ≡ passes_filters q p) → q.reverse ≡ false → includes_empty q.buckets ≡ false
+      → limit_rows q.count (rows_passing q.buckets l (filter test (between q.from q.to l))) ≡ rows q l
   walk-rows test lets forward full =
-      ap (λ (ps : List Point). first_ones q.count (rows_chosen q.buckets l ps)) (filter_agree test (is_let_through q) lets (between q.from q.to l))
-      ∙ ap (λ (b : Bool). first_ones q.count (turned b (rows_chosen q.buckets l (selected q l)))) (sym forward)
+      ap (λ (ps : List Point). limit_rows q.count (rows_passing q.buckets l ps)) (filter_agree test (passes_filters q) lets (between q.from q.to l))
+      ∙ ap (λ (b : Bool). limit_rows q.count (in_requested_order b (rows_passing q.buckets l (selected q l)))) (sym forward)
       ∙ sym (chosen-rows q.buckets refl full)
 
   -- the same where the last row comes first
-  pub walk-rows-back : (test : Point → Bool) → ((p : Point) → test p ≡ is_let_through q p) → q.reverse ≡ true → tells_empty q.buckets ≡ false
-      → first_ones q.count (reverse (rows_chosen q.buckets l (filter test (between q.from q.to l)))) ≡ rows q l
+  pub walk-rows-back : (test : Point → Bool) → ((p : Point) → test p ≡ passes_filters q p) → q.reverse ≡ true → includes_empty q.buckets ≡ false
+      → limit_rows q.count (reverse (rows_passing q.buckets l (filter test (between q.from q.to l)))) ≡ rows q l
   walk-rows-back test lets backward full =
-      ap (λ (ps : List Point). first_ones q.count (reverse (rows_chosen q.buckets l ps))) (filter_agree test (is_let_through q) lets (between q.from q.to l))
-      ∙ ap (λ (b : Bool). first_ones q.count (turned b (rows_chosen q.buckets l (selected q l)))) (sym backward)
+      ap (λ (ps : List Point). limit_rows q.count (reverse (rows_passing q.buckets l ps))) (filter_agree test (passes_filters q) lets (between q.from q.to l))
+      ∙ ap (λ (b : Bool). limit_rows q.count (in_requested_order b (rows_passing q.buckets l (selected q l)))) (sym backward)
       ∙ sym (chosen-rows q.buckets refl full)
 
-  pub no-limit : (limit : ℕ) → tells_empty q.buckets ≡ false → answer limit q l ≡ Some (rows q l)
+  pub no-limit : (limit : ℕ) → includes_empty q.buckets ≡ false → answer limit q l ≡ Some (rows q l)
   no-limit limit full = ap (λ (b : Bool). if b && nat_lt limit (length (rows q l)) then None else Some (rows q l)) full

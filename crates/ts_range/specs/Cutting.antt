@@ -5,7 +5,7 @@ use Rattle.std.specs.Option.{ForSome}
 use Rattle.ts_spec.specs.Sample.{Point}
 use Rattle.ts_spec.specs.Bucket.{start}
 use Rattle.ts_spec.specs.Answer.{Row}
-use Rattle.ts_agg.specs.Tally.{Tells, counted}
+use Rattle.ts_agg.specs.Tally.{IsTallyOf, counted}
 use Rattle.ts_range.specs.declared.query.Buckets.{Buckets}
 use Rattle.ts_range.specs.declared.bucket.Bucket.{Bucket}
 use Rattle.ts_range.specs.Query.{buckets_of}
@@ -20,7 +20,7 @@ pub record IsOpenAt (has : List Row → Type 0) (bs : Buckets) (o : Bucket) (ps 
   pub span : IsSpan bs.grid o.start o.last
   pub before : All (λ p. start bs.grid p.time < o.start) early
   pub inside : All (λ p. start bs.grid p.time ≡ o.start) here
-  pub tells : Tells bs.agg o.tally here
+  pub tells : IsTallyOf bs.agg o.tally here
   pub taken : (asked : List Point) → has (bucket_rows (buckets_of bs) asked early)
 
 -- the current bucket is that of the last sample; with no samples there is none
@@ -38,5 +38,5 @@ pub record HasBegun (bs : Buckets) (current : Option Bucket) (p : Point) : Type 
   pub is : current ≡ Some bucket
   pub span : IsSpan bs.grid bucket.start bucket.last
   pub begins : bucket.start ≡ start bs.grid p.time
-  pub tells : Tells bs.agg bucket.tally (p ∷ [])
+  pub tells : IsTallyOf bs.agg bucket.tally (p ∷ [])
   pub one : counted bucket.tally ≤ 1

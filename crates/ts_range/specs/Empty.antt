@@ -6,7 +6,7 @@ use Rattle.ts_spec.specs.declared.bucket.Aggregator.TheVariants.{Sum, Count, Las
 use Rattle.ts_spec.specs.Sample.{Point}
 use Rattle.ts_spec.specs.Answer.{Cell, Number, Nan, last_value}
 use Rattle.ts_range.specs.declared.query.Asked.{Asked}
-use Rattle.ts_range.specs.Walk.{last_before}
+use Rattle.ts_range.specs.AskedSamples.{last_before}
 
 -- the last sample before a bucket, from the collected samples; `first` says that it is the first bucket of the answer
 abbrev pub known_before : (first : Bool) → ℕ → Asked → Option Point

@@ -3,30 +3,30 @@ use Rattle.std.specs.Prelude.{◌≡◌, ℕ, ◌≤◌, ◌<◌, ℤ, Bool, tru
 use Rattle.std.specs.List.{All}
 use Rattle.ts_spec.specs.Sample.{Point, IsAscending, last_of}
 use Rattle.ts_spec.specs.Bucket.{start, members}
-use Rattle.ts_spec.specs.Answer.{Cell, Number, Row, starts_between, lets_time, lets_value}
-use Rattle.ts_range.specs.declared.filling.Filling as rust
+use Rattle.ts_spec.specs.Answer.{Cell, Number, Row, starts_between, passes_time_filter, passes_value_filter}
+use Rattle.ts_range.specs.declared.fill_plan.FillPlan as rust
 use Rattle.ts_range.specs.declared.filters.Filters.{Filters}
 use Rattle.ts_range.specs.declared.last_values.Current.{Current}
-use Rattle.ts_range.specs.Filling.{Filling, filling_of, row_at, said_of}
+use Rattle.ts_range.specs.FillPlan.{FillPlan, fill_plan_of, row_at, value_or_fill}
 use Rattle.ts_range.specs.Query.{cell_of, span_of}
-use Rattle.ts_range.specs.Walk.{last_before}
+use Rattle.ts_range.specs.AskedSamples.{last_before}
 
 -- the buckets and the values of empty ones before any sample, the times and values that pass, and the samples received
 -- so far
 pub record LastValues : Type 0 where
-  pub filling : Filling
+  pub filling : FillPlan
   pub times : Option (List ℕ)
   pub values : Option (ℤ × ℤ)
   pub seen : List Point
 
 -- whether a sample passes the filters
 abbrev pub counts : LastValues → Point → Bool
-counts v p = lets_time v.times p.time && lets_value (option_map span_of v.values) p.value
+counts v p = passes_time_filter v.times p.time && passes_value_filter (option_map span_of v.values) p.value
 
 -- the state for these buckets and filters after these samples
-abbrev pub values_of : Filters → rust.Filling → List Point → LastValues
+abbrev pub values_of : Filters → rust.FillPlan → List Point → LastValues
 values_of filters filling seen = record {
-  filling = filling_of filling;
+  filling = fill_plan_of filling;
   times = option_map (λ times. times.items) filters.times;
   values = filters.values;
   seen = seen;
@@ -46,13 +46,13 @@ is_first [] b = false
 is_first (c ∷ starts) b = b == c
 
 -- the value of the bucket at b if it is empty: the last value before it
-abbrev pub said_before : (first : Bool) → LastValues → ℕ → Cell
-said_before true v b = v.filling.first
-said_before false v b = said_of v.filling.others (value_of (last_before b v.seen))
+abbrev pub fill_value_before : (first : Bool) → LastValues → ℕ → Cell
+fill_value_before true v b = v.filling.first
+fill_value_before false v b = value_or_fill v.filling.others (value_of (last_before b v.seen))
 
 -- the value of the bucket at b: its last value that passes, or else that of an empty bucket
 abbrev pub last_cell : LastValues → ℕ → Cell
-last_cell v b = said_of (said_before (is_first v.filling.starts b) v b) (value_of (last_of (members v.filling.buckets.grid b (filter (counts v) v.seen))))
+last_cell v b = value_or_fill (fill_value_before (is_first v.filling.starts b) v b) (value_of (last_of (members v.filling.buckets.grid b (filter (counts v) v.seen))))
 
 -- the row of a bucket
 abbrev pub last_row : LastValues → ℕ → Row

@@ -6,7 +6,7 @@ ghost use Rattle.ts_bucket.specs.Grid.{IsLastOf};
 ghost use Rattle.ts_range.specs.Spans.{IsSpan};
 
 use crate::query::{Buckets, Row};
-use crate::take::Take;
+use crate::row_sinks::RowSink;
 use ts_agg::Tally;
 use ts_bucket::{Grid, Stamp};
 use ts_sample::{Cell, MAX_TIME, Sample};
@@ -26,7 +26,7 @@ impl Bucket {
     ghost use Rattle.std.specs.Prelude.{List, [], ◌∷◌, ◌++◌};
     ghost use Rattle.ts_spec.specs.Sample.{Point};
     ghost use Rattle.ts_spec.specs.Answer.{Row as TheRow};
-    ghost use Rattle.ts_agg.specs.Tally.{Tells, counted};
+    ghost use Rattle.ts_agg.specs.Tally.{IsTallyOf, counted};
     ghost use Rattle.ts_range.specs.Query.{buckets_of};
     ghost use Rattle.ts_range.specs.BucketRows.{row_with};
 
@@ -34,7 +34,7 @@ impl Bucket {
     pub(crate) fn of(buckets: &Buckets, sample: &Sample) -> Bucket
         ensures span { IsSpan buckets.now.grid result.start result.last }
         ensures start { result.start ≡ start_of buckets.now.grid sample.now.time }
-        ensures tells { Tells buckets.now.agg result.tally (sample.now ∷ []) }
+        ensures tells { IsTallyOf buckets.now.agg result.tally (sample.now ∷ []) }
         ensures one { counted result.tally ≤ 1 }
     {
         let (start, last) = span_of(&buckets.grid, sample.time);
@@ -49,9 +49,11 @@ impl Bucket {
     #[inline]
     pub(crate) fn after(&self, buckets: &Buckets, sample: &Sample) -> Bucket
         requires { self.now.last < sample.now.time }
-        ensures span { IsSpan buckets.now.grid self.now.start self.now.last → IsSpan buckets.now.grid result.start result.last }
-        ensures start { IsSpan buckets.now.grid self.now.start self.now.last → result.start ≡ start_of buckets.now.grid sample.now.time }
-        ensures tells { Tells buckets.now.agg result.tally (sample.now ∷ []) }
+        ensures span { IsSpan buckets.now.grid self.now.start self.now.last
+            → IsSpan buckets.now.grid result.start result.last }
+        ensures start { IsSpan buckets.now.grid self.now.start self.now.last
+            → result.start ≡ start_of buckets.now.grid sample.now.time }
+        ensures tells { IsTallyOf buckets.now.agg result.tally (sample.now ∷ []) }
         ensures one { counted result.tally ≤ 1 }
     {
         let (start, last) = span_past(self.last, &buckets.grid, sample.time);
@@ -65,32 +67,39 @@ impl Bucket {
     // Emits the row of this bucket and starts the bucket of `sample`. It runs once per bucket, so it stays out of the
     // code that runs once per sample.
     #[inline(never)]
-    pub(crate) fn turn<T: Take>(&mut self, buckets: &Buckets, sample: &Sample, taker: &mut T)
+    pub(crate) fn emit_and_advance<T: RowSink>(
+        &mut self,
+        buckets: &Buckets,
+        sample: &Sample,
+        row_sink: &mut T,
+    )
         requires { self.old.last < sample.now.time }
-        ensures limit { T.limit taker.new ≡ T.limit taker.old }
-        ensures row { (ps : List Point) → Tells buckets.now.agg self.old.tally ps
+        ensures limit { T.limit row_sink.new ≡ T.limit row_sink.old }
+        ensures row { (ps : List Point) → IsTallyOf buckets.now.agg self.old.tally ps
             → start_of buckets.now.grid self.old.start ≡ self.old.start
-            → (rows : List TheRow) → T.has taker.old rows
-            → T.has taker.new (rows ++ row_with (buckets_of buckets.now) self.old.start ps ∷ []) }
-        ensures span { IsSpan buckets.now.grid self.old.start self.old.last → IsSpan buckets.now.grid self.new.start self.new.last }
-        ensures start { IsSpan buckets.now.grid self.old.start self.old.last → self.new.start ≡ start_of buckets.now.grid sample.now.time }
-        ensures tells { Tells buckets.now.agg self.new.tally (sample.now ∷ []) }
+            → (rows : List TheRow) → T.has row_sink.old rows
+            → T.has row_sink.new (rows ++ row_with (buckets_of buckets.now) self.old.start ps ∷ []) }
+        ensures span { IsSpan buckets.now.grid self.old.start self.old.last
+            → IsSpan buckets.now.grid self.new.start self.new.last }
+        ensures start { IsSpan buckets.now.grid self.old.start self.old.last
+            → self.new.start ≡ start_of buckets.now.grid sample.now.time }
+        ensures tells { IsTallyOf buckets.now.agg self.new.tally (sample.now ∷ []) }
         ensures one { counted self.new.tally ≤ 1 }
     {
-        self.tell(buckets, taker);
+        self.emit_row(buckets, row_sink);
         *self = self.after(buckets, sample);
     }
 
     // Emits the row of this bucket.
     #[inline]
-    pub(crate) fn tell<T: Take>(&self, buckets: &Buckets, taker: &mut T)
-        ensures limit { T.limit taker.new ≡ T.limit taker.old }
-        ensures row { (ps : List Point) → Tells buckets.now.agg self.now.tally ps
+    pub(crate) fn emit_row<T: RowSink>(&self, buckets: &Buckets, row_sink: &mut T)
+        ensures limit { T.limit row_sink.new ≡ T.limit row_sink.old }
+        ensures row { (ps : List Point) → IsTallyOf buckets.now.agg self.now.tally ps
             → start_of buckets.now.grid self.now.start ≡ self.now.start
-            → (rows : List TheRow) → T.has taker.old rows
-            → T.has taker.new (rows ++ row_with (buckets_of buckets.now) self.now.start ps ∷ []) }
+            → (rows : List TheRow) → T.has row_sink.old rows
+            → T.has row_sink.new (rows ++ row_with (buckets_of buckets.now) self.now.start ps ∷ []) }
     {
-        taker.row(Row {
+        row_sink.row(Row {
             time: stamp_of(self.start, buckets),
             value: Cell::Number(self.tally.value()),
         });
@@ -106,7 +115,7 @@ fn span_of(grid: &Grid, t: u64) -> (u64, u64)
 {
     grid.known();
     let start = grid.start_of(t);
-    (start, last_from(grid, start))
+    (start, last_time_of_bucket(grid, start))
 }
 
 // The same for a time after a bucket that ends at `last`. Mostly that is the next bucket, which takes one addition.
@@ -119,7 +128,7 @@ fn span_past(last: u64, grid: &Grid, t: u64) -> (u64, u64)
     ensures start { (b : ℕ) → IsSpan grid.now b last → result.0 ≡ start_of grid.now t }
 {
     let next = last + 1;
-    let end = last_from(grid, next);
+    let end = last_time_of_bucket(grid, next);
     if t <= end {
         return (next, end);
     }
@@ -128,7 +137,7 @@ fn span_past(last: u64, grid: &Grid, t: u64) -> (u64, u64)
 
 // The last time of the bucket that begins at `start`. Only the first bucket may be shorter, and needs a division.
 #[inline]
-fn last_from(grid: &Grid, start: u64) -> u64
+fn last_time_of_bucket(grid: &Grid, start: u64) -> u64
     requires { start ≤ MAX_TIME }
     ensures within { result ≤ MAX_TIME }
     ensures last { start_of grid.now start ≡ start → IsLastOf grid.now start result }

@@ -1,7 +1,7 @@
 // Groups ascending samples into buckets and emits one row per bucket.
 use crate::bucket::Bucket;
 use crate::query::Buckets;
-use crate::take::Take;
+use crate::row_sinks::RowSink;
 use ts_sample::Sample;
 
 #[derive(Clone, Copy)]
@@ -32,13 +32,14 @@ impl Cutter {
     // Adds the next sample. If it starts a new bucket, emits the row of the previous one first. Samples within a bucket
     // need no division.
     #[inline(always)]
-    pub(crate) fn push<T: Take>(&mut self, sample: &Sample, taker: &mut T)
+    pub(crate) fn push<T: RowSink>(&mut self, sample: &Sample, row_sink: &mut T)
         requires few { ForSome self.old.current (λ b. counted b.tally < 10 ^ 14) }
         ensures buckets { self.new.buckets ≡ self.old.buckets }
-        ensures limit { T.limit taker.new ≡ T.limit taker.old }
+        ensures limit { T.limit row_sink.new ≡ T.limit row_sink.old }
         ensures few { (n : ℕ) → HasAtMost n self.old.current → HasAtMost (n + 1) self.new.current }
-        ensures cut { (ps : List Point) → IsAscending (ps ++ sample.now ∷ []) → IsCut (T.has taker.old) self.old.buckets self.old.current ps
-            → IsCut (T.has taker.new) self.old.buckets self.new.current (ps ++ sample.now ∷ []) }
+        ensures cut { (ps : List Point) → IsAscending (ps ++ sample.now ∷ [])
+            → IsCut (T.has row_sink.old) self.old.buckets self.old.current ps
+            → IsCut (T.has row_sink.new) self.old.buckets self.new.current (ps ++ sample.now ∷ []) }
     {
         match &mut self.current {
             None => self.open(sample),
@@ -47,7 +48,7 @@ impl Cutter {
                     bucket.tally.push(sample);
                     return;
                 }
-                bucket.turn(&self.buckets, sample, taker);
+                bucket.emit_and_advance(&self.buckets, sample, row_sink);
             }
         }
     }
@@ -62,12 +63,13 @@ impl Cutter {
     }
 
     // Emits the row of the current bucket, if there is one.
-    pub(crate) fn close<T: Take>(&self, taker: &mut T)
-        ensures limit { T.limit taker.new ≡ T.limit taker.old }
-        ensures closed { (ps asked : List Point) → IsCut (T.has taker.old) self.now.buckets self.now.current ps → T.has taker.new (bucket_rows (buckets_of self.now.buckets) asked ps) }
+    pub(crate) fn close<T: RowSink>(&self, row_sink: &mut T)
+        ensures limit { T.limit row_sink.new ≡ T.limit row_sink.old }
+        ensures closed { (ps asked : List Point) → IsCut (T.has row_sink.old) self.now.buckets self.now.current ps
+            → T.has row_sink.new (bucket_rows (buckets_of self.now.buckets) asked ps) }
     {
         if let Some(bucket) = &self.current {
-            bucket.tell(&self.buckets, taker);
+            bucket.emit_row(&self.buckets, row_sink);
         }
     }
 }

@@ -4,17 +4,18 @@ ghost use Rattle.ts_spec.specs.Sample.{Point, IsAscending, first_of, last_of};
 ghost use Rattle.ts_spec.specs.Answer as spec;
 ghost use Rattle.ts_range.specs.Query.{query_of};
 ghost use Rattle.ts_range.specs.Empty.{known_before};
-ghost use Rattle.ts_range.specs.Walk.{times_of};
+ghost use Rattle.ts_range.specs.AskedSamples.{times_of};
 
 use crate::query::{Asked, Query};
 use crate::starts::Starts;
-use ts_sample::{Sample, place_of};
+use ts_sample::{Sample, lower_bound};
 
 /// Whether the query asks for empty buckets and its answer has more than `limit` rows. `ends` are the times of the
 /// first and the last sample of the series, in milliseconds.
 pub fn are_too_many(query: &Query, ends: Option<(u64, u64)>, limit: u32) -> bool
-    ensures { (l : List Point) → (IsTrue (spec.tells_empty (query_of query.now).buckets) → ends ≡ times_of (first_of l) (last_of l))
-        → result ≡ (spec.tells_empty (query_of query.now).buckets
+    ensures { (l : List Point)
+        → (IsTrue (spec.includes_empty (query_of query.now).buckets) → ends ≡ times_of (first_of l) (last_of l))
+        → result ≡ (spec.includes_empty (query_of query.now).buckets
         && nat_lt limit (length (spec.rows (query_of query.now) l))) }
 {
     let Some(buckets) = &query.buckets else {
@@ -38,7 +39,7 @@ pub(crate) fn before(asked: &Asked, start: u64, first: bool) -> Option<Sample>
         return asked.ahead;
     }
     let samples = asked.rows.as_slice();
-    match samples[..place_of(samples, start)].last() {
+    match samples[..lower_bound(samples, start)].last() {
         Some(sample) => Some(*sample),
         None => asked.prior,
     }

@@ -3,7 +3,7 @@ ghost use Rattle.std.specs.Prelude.{◌≡◌, ◌≤◌, ◌<◌, ℕ, true, fa
 ghost use Rattle.std.specs.Prelude.{option_map};
 ghost use Rattle.std.specs.Option.{ForSome};
 ghost use Rattle.std.specs.List.Sorted.{IsNonDecreasing};
-ghost use Rattle.ts_spec.specs.Answer.{is_listed};
+ghost use Rattle.ts_spec.specs.Answer.{contains_time};
 
 use crate::query::Query;
 use std::alloc::{AllocError, Global};
@@ -16,54 +16,54 @@ pub struct Filters {
     times: Option<Vec<u64>>,
     values: Option<(Units, Units)>,
     // Whether there is no filter, so that samples need no check.
-    lets_all: bool,
+    passes_all: bool,
     ghost times_rise: { ForSome times (λ times. IsNonDecreasing times.items) },
-    ghost lets_all_times: { IsTrue lets_all → times ≡ None },
-    ghost lets_all_values: { IsTrue lets_all → values ≡ None },
+    ghost lets_all_times: { IsTrue passes_all → times ≡ None },
+    ghost lets_all_values: { IsTrue passes_all → values ≡ None },
 }
 
 impl Filters {
     ghost use Rattle.ts_spec.specs.Sample.{Point, is_within};
-    ghost use Rattle.ts_spec.specs.Answer.{is_let_through, lets_time, lets_value};
+    ghost use Rattle.ts_spec.specs.Answer.{passes_filters, passes_time_filter, passes_value_filter};
     ghost use Rattle.ts_range.specs.Query.{query_of, span_of};
     ghost use Rattle.ts_range.specs.Filters.{passes};
 
     /// Prepares the filters of a query. Fails if there is no memory for the sorted times.
     pub fn of(query: &Query) -> Result<Filters, AllocError>
         ensures { IfOk result (λ f. (p : Point) →
-            passes f p ≡ is_let_through (query_of query.now) p) }
+            passes f p ≡ passes_filters (query_of query.now) p) }
     {
         let values = query.values;
         let Some(times) = &query.times else {
             return Ok(Filters {
                 times: None,
                 values,
-                lets_all: values.is_none(),
+                passes_all: values.is_none(),
             });
         };
         Ok(Filters {
             times: Some(sorted(*times.allocator(), times)?),
             values,
-            lets_all: false,
+            passes_all: false,
         })
     }
 
     // Whether there is no filter.
-    pub(crate) fn let_all(&self) -> bool
+    pub(crate) fn pass_everything(&self) -> bool
         ensures { result ≡ true → (p : Point) → passes self.now p ≡ true }
     {
-        self.lets_all
+        self.passes_all
     }
 
     // Whether a sample passes both filters.
     #[inline(always)]
-    pub(crate) fn let_through(&self, sample: &Sample) -> bool
+    pub(crate) fn lets_pass(&self, sample: &Sample) -> bool
         ensures { result ≡ passes self.now sample.now }
     {
-        if self.lets_all {
+        if self.passes_all {
             return true;
         }
-        self.let_time(sample.time) && self.let_value(sample.value)
+        self.passes_time(sample.time) && self.passes_value(sample.value)
     }
 
     // The part of the interval that can contain samples that pass, if any can.
@@ -85,8 +85,8 @@ impl Filters {
 
     // Whether the time is one of the listed times.
     #[inline]
-    fn let_time(&self, time: u64) -> bool
-        ensures { result ≡ lets_time (option_map (λ times. times.items) self.now.times) time }
+    fn passes_time(&self, time: u64) -> bool
+        ensures { result ≡ passes_time_filter (option_map (λ times. times.items) self.now.times) time }
     {
         match &self.times {
             None => true,
@@ -96,8 +96,8 @@ impl Filters {
 
     // Whether the value is within the bounds, both included.
     #[inline]
-    fn let_value(&self, value: Units) -> bool
-        ensures { result ≡ lets_value (option_map span_of self.now.values) value }
+    fn passes_value(&self, value: Units) -> bool
+        ensures { result ≡ passes_value_filter (option_map span_of self.now.values) value }
     {
         match self.values {
             None => true,
@@ -109,7 +109,7 @@ impl Filters {
 // The times in ascending order.
 fn sorted(alloc: Global, times: &[u64]) -> Result<Vec<u64>, AllocError>
     ensures rising { IfOk result (λ sorted. IsNonDecreasing sorted.items) }
-    ensures same { IfOk result (λ sorted. (t : ℕ) → is_listed sorted.items t ≡ is_listed times.now t) }
+    ensures same { IfOk result (λ sorted. (t : ℕ) → contains_time sorted.items t ≡ contains_time times.now t) }
 {
     let mut sorted = times.to_vec(alloc)?;
     sorted.sort_unstable();
@@ -119,8 +119,9 @@ fn sorted(alloc: Global, times: &[u64]) -> Result<Vec<u64>, AllocError>
 // The first listed time at or after `from`.
 fn first_from(times: &[u64], from: u64) -> Option<u64>
     requires { IsNonDecreasing times.now }
-    ensures first { IfSome result (λ first. (from ≤ first) × ((t : ℕ) → from ≤ t → t < first → is_listed times.now t ≡ false)) }
-    ensures none { IfNone result ((t : ℕ) → from ≤ t → is_listed times.now t ≡ false) }
+    ensures first { IfSome result (λ first. (from ≤ first)
+        × ((t : ℕ) → from ≤ t → t < first → contains_time times.now t ≡ false)) }
+    ensures none { IfNone result ((t : ℕ) → from ≤ t → contains_time times.now t ≡ false) }
 {
     let place = times.partition_point(|time| *time < from);
     if place == times.len() {
@@ -132,8 +133,9 @@ fn first_from(times: &[u64], from: u64) -> Option<u64>
 // The last listed time at or before `to`.
 fn last_upto(times: &[u64], to: u64) -> Option<u64>
     requires { IsNonDecreasing times.now }
-    ensures last { IfSome result (λ last. (last ≤ to) × ((t : ℕ) → last < t → t ≤ to → is_listed times.now t ≡ false)) }
-    ensures none { IfNone result ((t : ℕ) → t ≤ to → is_listed times.now t ≡ false) }
+    ensures last { IfSome result (λ last. (last ≤ to)
+        × ((t : ℕ) → last < t → t ≤ to → contains_time times.now t ≡ false)) }
+    ensures none { IfNone result ((t : ℕ) → t ≤ to → contains_time times.now t ≡ false) }
 {
     let count = times.partition_point(|time| *time <= to);
     if count == 0 {

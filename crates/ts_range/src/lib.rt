@@ -3,25 +3,25 @@
 
 mod answers;
 mod bucket;
+mod bucket_range;
 mod cutter;
 mod empty;
-mod filled;
-mod filling;
+mod fill_plan;
 mod filters;
+mod gap_filler;
 mod last_values;
 mod query;
+mod row_scan;
+mod row_sinks;
 mod starts;
-mod stretch;
-mod take;
 mod trail;
-mod walk;
 
-pub use answers::{answer, turned};
+pub use answers::{answer, in_requested_order};
+pub use bucket_range::BucketRange;
 pub use empty::are_too_many;
-pub use filled::Filled;
 pub use filters::Filters;
+pub use gap_filler::GapFiller;
 pub use last_values::LastValues;
-pub use query::{Asked, Buckets, Query, RangeFault, Row, filled_buckets};
-pub use stretch::Stretch;
-pub use take::{Keep, Limited, RowList, Take};
-pub use walk::Walk;
+pub use query::{Asked, Buckets, Query, RangeFault, Row, gap_filling_buckets};
+pub use row_scan::RowScan;
+pub use row_sinks::{FallibleRowSink, Limited, RowList, RowSink};

@@ -2,7 +2,7 @@
 ghost use Rattle.std.specs.Prelude.{◌≤◌, All, IfNone, IfSome, Some};
 ghost use Rattle.std.specs.Option.{ForSome};
 ghost use Rattle.ts_spec.specs.Sample.{MAX_TIME};
-ghost use Rattle.ts_range.specs.Stretches.{IsFilledIn};
+ghost use Rattle.ts_range.specs.BucketRanges.{FillsGaps};
 ghost use Rattle.ts_range.specs.FaultNames.{name_of};
 
 use std::alloc::AllocError;
@@ -70,9 +70,9 @@ pub struct Asked {
 }
 
 /// The buckets of a query with EMPTY.
-pub fn filled_buckets(query: &Query) -> Option<Buckets>
-    ensures some { IfSome result (IsFilledIn query.now) }
-    ensures none { IfNone result ((buckets : Buckets) → IsFilledIn query.now buckets → ⊥) }
+pub fn gap_filling_buckets(query: &Query) -> Option<Buckets>
+    ensures some { IfSome result (FillsGaps query.now) }
+    ensures none { IfNone result ((buckets : Buckets) → FillsGaps query.now buckets → ⊥) }
 {
     let buckets = query.buckets?;
     if buckets.empty { Some(buckets) } else { None }

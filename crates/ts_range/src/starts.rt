@@ -25,7 +25,7 @@ impl Starts {
     ghost use Rattle.ts_spec.specs.Answer.{starts_between};
     ghost use Rattle.ts_range.specs.Order.{in_order};
     ghost use Rattle.ts_range.specs.Starts.{starts_of, starts_if, starts_within};
-    ghost use Rattle.ts_range.specs.Walk.{most_of};
+    ghost use Rattle.ts_range.specs.AskedSamples.{most_of};
 
     // The starts for a query over a series whose first and last sample have the times `ends`.
     pub(crate) fn over(query: &Query, grid: &Grid, ends: Option<(u64, u64)>) -> Option<Starts>

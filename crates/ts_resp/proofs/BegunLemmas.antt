@@ -3,7 +3,7 @@ use Rattle.std.proofs.Common.{◌≡◌, ℕ, suc, ◌+◌, ◌<◌, Bool, true,
 use Rattle.std.proofs.lemmas.List.{drop-drop}
 use Rattle.ts_spec.specs.declared.wire.Kind.TheVariants.{Multibulk, Crlf}
 use Rattle.ts_spec.specs.declared.wire.WireLimits.{WireLimits}
-use Rattle.ts_spec.specs.Wire.{Mode, Start, Count, CountFeed, STAR, FEED, Move, Fault, Line, Blank, LineMove, Goes, Returns, Wrong, want, move, line_step, on_count, after_count}
+use Rattle.ts_spec.specs.Wire.{Mode, Start, Count, CountFeed, STAR, FEED, Move, Fault, Line, Blank, LineMove, Goes, Returns, Wrong, expect_byte, move, line_step, on_count, after_count}
 use Rattle.ts_resp.proofs.StartLemmas.{on_star}
 use Rattle.ts_resp.specs.declared.line.NumberLine.{NumberLine}
 use Rattle.ts_resp.specs.declared.line.NumberLine.TheVariants as found
@@ -106,7 +106,7 @@ fed_line limits first line number len (byte ∷ rest) e is t =
     let there : place + 1 + len + 1 ≡ place + (len + 2) = omega arith in
     l.0 ∙ l.1 ∙ ap (begun_on limits (place + 1 + len + 1) begin (CountFeed number)) t
     ∙ begun_on-byte limits (place + 1 + len + 1) begin (CountFeed number) byte rest _ refl
-    ∙ ap (λ place. begun_after (want byte FEED Crlf (after_count limits number)) place begin (λ from on. begun_on limits (place + 1) from on rest)) there)
+    ∙ ap (λ place. begun_after (expect_byte byte FEED Crlf (after_count limits number)) place begin (λ from on. begun_on limits (place + 1) from on rest)) there)
 
 -- the LF, or what stands in its place
 pub IsBegun-feed : (limits : WireLimits) (first : ℕ) (line : List ℕ) (number len : ℕ) (r : Header) → first ≡ STAR

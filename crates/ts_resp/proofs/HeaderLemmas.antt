@@ -6,9 +6,9 @@ use Rattle.ts_spec.specs.declared.wire.Kind.{Kind}
 use Rattle.ts_spec.specs.declared.wire.Kind.TheVariants.{Multibulk, Bulk, Dollar, Crlf}
 use Rattle.ts_spec.specs.declared.wire.WireLimits.{WireLimits}
 use Rattle.ts_spec.specs.Wire as wire
-use Rattle.ts_spec.specs.Wire.{Stream, Inside, Partial, Mode, Start, Mark, Count, CountFeed, Length, LengthFeed, after_count, after_length, Move, Goto, Fault, Line, Blank, LineMove, Goes, Returns, Wrong, FEED, want, move, line_step, on_count, on_length, at_end, after_move, read_on}
+use Rattle.ts_spec.specs.Wire.{Stream, Inside, Partial, Mode, Start, Mark, Count, CountFeed, Length, LengthFeed, after_count, after_length, Move, Goto, Fault, Line, Blank, LineMove, Goes, Returns, Wrong, FEED, expect_byte, move, line_step, on_count, on_length, at_end, after_move, read_on}
 use Rattle.ts_spec.proofs.Streams.{read_on-nil, read_on-byte}
-use Rattle.ts_spec.proofs.Lines.{on_line, IsLineMode, IsFed, count_line, length_line, length_ends, want-same}
+use Rattle.ts_spec.proofs.Lines.{on_line, IsLineMode, IsFed, count_line, length_line, length_ends, expect_byte-same}
 use Rattle.ts_resp.proofs.StartLemmas.{on_star}
 use Rattle.ts_resp.specs.declared.line.NumberLine.{NumberLine}
 use Rattle.ts_resp.specs.declared.line.NumberLine.TheVariants as found
@@ -157,7 +157,7 @@ fed_line {limits} {limit} {negative} {mode} {ends} {kind} {entry} {first} led ne
     ∙ ap (λ m. after_move m (place + 1 + len) begin (λ from on. read_on limits (place + 1 + len + 1) from on (drop (len + 1) line ++ more))) f
     ∙ ap (λ tail. read_on limits (place + 1 + len + 1) begin feed (tail ++ more)) t
     ∙ read_on-byte limits (place + 1 + len + 1) begin feed byte (rest ++ more) _ (fed.moves byte)
-    ∙ ap (λ place. after_move (want byte FEED Crlf (next number)) place begin (λ from on. read_on limits (place + 1) from on (rest ++ more))) there)
+    ∙ ap (λ place. after_move (expect_byte byte FEED Crlf (next number)) place begin (λ from on. read_on limits (place + 1) from on (rest ++ more))) there)
 
 -- the LF, or what stands in its place
 pub IsHeader-feed : {limits : WireLimits} {limit : ℕ} {negative : Bool} {mode : Line → Mode} {ends : ℕ → Move} {kind : Kind} {entry : Mode} {first : ℕ}
@@ -173,7 +173,7 @@ count_led limits first e = record { line = count_line limits; leads = on_star li
 
 pub length_led : (limits : WireLimits) (so_far : Partial) (first : ℕ) → first ≡ 36
     → IsLed limits limits.word_bytes false (Length so_far) (length_ends so_far) Bulk (Mark so_far) first
-length_led limits so_far first e = record { line = length_line limits so_far; leads = want-same first 36 Dollar (Goto (Length so_far Blank)) e }
+length_led limits so_far first e = record { line = length_line limits so_far; leads = expect_byte-same first 36 Dollar (Goto (Length so_far Blank)) e }
 
 -- what holds of a first byte and the others holds of the slice
 pub of_slice : (P : List ℕ → Type 0) (bytes : List ℕ) → 1 ≤ length bytes → P (get_or bytes 0 0 ∷ take (length bytes - 1) (drop 1 bytes)) → P bytes

@@ -6,7 +6,7 @@ use Rattle.std.specs.declared.cmp.Ordering.TheVariants.{Less, Equal, Greater}
 use Rattle.std.specs.Cmp.{ranks, nat_cmp_is}
 use Rattle.std.specs.Ordering.{nat_cmp, ordering_then, MatchOrdering}
 use Rattle.std.specs.Cmp.Lexicographic.{slice_cmp}
-use Rattle.ts_resp.specs.Words.{spelt}
+use Rattle.ts_resp.specs.Words.{big_endian}
 
 -- each is a byte
 abbrev pub AreBytes : List ℕ → Type 0
@@ -18,49 +18,49 @@ AreBytes-drop (suc n) [] h = h
 AreBytes-drop (suc n) (x ∷ xs) h = AreBytes-drop n xs (λ i. h (suc i))
 
 -- the greater number stays greater, whatever bytes follow
-spelt-less : (n a b : ℕ) (xs ys : List ℕ) → n ≤ length xs → n ≤ length ys → AreBytes xs → a < b → spelt a n xs < spelt b n ys
-spelt-less zero a b xs ys p q h l = l
-spelt-less (suc n) a b [] ys p q h l = absurd (omega arith)
-spelt-less (suc n) a b (x ∷ xs) [] p q h l = absurd (omega arith)
-spelt-less (suc n) a b (x ∷ xs) (y ∷ ys) p q h l =
+big_endian-less : (n a b : ℕ) (xs ys : List ℕ) → n ≤ length xs → n ≤ length ys → AreBytes xs → a < b → big_endian a n xs < big_endian b n ys
+big_endian-less zero a b xs ys p q h l = l
+big_endian-less (suc n) a b [] ys p q h l = absurd (omega arith)
+big_endian-less (suc n) a b (x ∷ xs) [] p q h l = absurd (omega arith)
+big_endian-less (suc n) a b (x ∷ xs) (y ∷ ys) p q h l =
     let small : x < 256 = (h 0).fits in
-    spelt-less n (a * 256 + x) (b * 256 + y) xs ys (omega arith) (omega arith) (λ i. h (suc i)) (omega arith)
+    big_endian-less n (a * 256 + x) (b * 256 + y) xs ys (omega arith) (omega arith) (λ i. h (suc i)) (omega arith)
 
 nat_cmp-same : (n : ℕ) (o : Ordering) → o ≡ ordering_then (nat_cmp n n) o
 nat_cmp-same n o = ap (λ r. ordering_then r o) (nat_cmp_is n n Equal refl)
 
 -- n bytes decide, unless they are alike
-spelt-cmp : (n a : ℕ) (xs ys : List ℕ) → n ≤ length xs → n ≤ length ys → AreBytes xs → AreBytes ys
-    → slice_cmp nat_cmp xs ys ≡ ordering_then (nat_cmp (spelt a n xs) (spelt a n ys)) (slice_cmp nat_cmp (drop n xs) (drop n ys))
-spelt-cmp zero a xs ys p q g h = nat_cmp-same a (slice_cmp nat_cmp xs ys)
-spelt-cmp (suc n) a [] ys p q g h = absurd (omega arith)
-spelt-cmp (suc n) a (x ∷ xs) [] p q g h = absurd (omega arith)
-spelt-cmp (suc n) a (x ∷ xs) (y ∷ ys) p q g h =
-    by (nat_cmp x y) (ranks x y) (spelt-cmp n (a * 256 + x) xs ys (omega arith) (omega arith) (λ i. g (suc i)) (λ i. h (suc i)))
+big_endian-cmp : (n a : ℕ) (xs ys : List ℕ) → n ≤ length xs → n ≤ length ys → AreBytes xs → AreBytes ys
+    → slice_cmp nat_cmp xs ys ≡ ordering_then (nat_cmp (big_endian a n xs) (big_endian a n ys)) (slice_cmp nat_cmp (drop n xs) (drop n ys))
+big_endian-cmp zero a xs ys p q g h = nat_cmp-same a (slice_cmp nat_cmp xs ys)
+big_endian-cmp (suc n) a [] ys p q g h = absurd (omega arith)
+big_endian-cmp (suc n) a (x ∷ xs) [] p q g h = absurd (omega arith)
+big_endian-cmp (suc n) a (x ∷ xs) (y ∷ ys) p q g h =
+    by (nat_cmp x y) (ranks x y) (big_endian-cmp n (a * 256 + x) xs ys (omega arith) (omega arith) (λ i. g (suc i)) (λ i. h (suc i)))
   where
     by : (o : Ordering) → MatchOrdering o (x < y) (x ≡ y) (y < x)
-        → slice_cmp nat_cmp xs ys ≡ ordering_then (nat_cmp (spelt (a * 256 + x) n xs) (spelt (a * 256 + x) n ys)) (slice_cmp nat_cmp (drop n xs) (drop n ys))
-        → ordering_then o (slice_cmp nat_cmp xs ys) ≡ ordering_then (nat_cmp (spelt (a * 256 + x) n xs) (spelt (a * 256 + y) n ys)) (slice_cmp nat_cmp (drop n xs) (drop n ys))
+        → slice_cmp nat_cmp xs ys ≡ ordering_then (nat_cmp (big_endian (a * 256 + x) n xs) (big_endian (a * 256 + x) n ys)) (slice_cmp nat_cmp (drop n xs) (drop n ys))
+        → ordering_then o (slice_cmp nat_cmp xs ys) ≡ ordering_then (nat_cmp (big_endian (a * 256 + x) n xs) (big_endian (a * 256 + y) n ys)) (slice_cmp nat_cmp (drop n xs) (drop n ys))
     by Less l rest =
         let less : x < y = l in
         ap (λ r. ordering_then r (slice_cmp nat_cmp (drop n xs) (drop n ys)))
-        (nat_cmp_is _ _ Less (spelt-less n (a * 256 + x) (a * 256 + y) xs ys (omega arith) (omega arith) (λ i. g (suc i)) (omega arith)))
+        (nat_cmp_is _ _ Less (big_endian-less n (a * 256 + x) (a * 256 + y) xs ys (omega arith) (omega arith) (λ i. g (suc i)) (omega arith)))
     by Greater l rest =
         let less : y < x = l in
         ap (λ r. ordering_then r (slice_cmp nat_cmp (drop n xs) (drop n ys)))
-        (nat_cmp_is _ _ Greater (spelt-less n (a * 256 + y) (a * 256 + x) ys xs (omega arith) (omega arith) (λ i. h (suc i)) (omega arith)))
+        (nat_cmp_is _ _ Greater (big_endian-less n (a * 256 + y) (a * 256 + x) ys xs (omega arith) (omega arith) (λ i. h (suc i)) (omega arith)))
     by Equal l rest =
         let same : x ≡ y = l in
-        rest ∙ ap (λ z. ordering_then (nat_cmp (spelt (a * 256 + x) n xs) (spelt (a * 256 + z) n ys)) (slice_cmp nat_cmp (drop n xs) (drop n ys))) same
+        rest ∙ ap (λ z. ordering_then (nat_cmp (big_endian (a * 256 + x) n xs) (big_endian (a * 256 + z) n ys)) (slice_cmp nat_cmp (drop n xs) (drop n ys))) same
 
 -- eight bytes of each that decide, or are alike
 pub eight_cmp : (xs ys : List ℕ) (at : ℕ) → AreBytes xs → AreBytes ys → at + 8 ≤ length xs → at + 8 ≤ length ys
     → slice_cmp nat_cmp (drop at xs) (drop at ys)
-    ≡ ordering_then (nat_cmp (spelt 0 8 (drop at xs)) (spelt 0 8 (drop at ys))) (slice_cmp nat_cmp (drop (at + 8) xs) (drop (at + 8) ys))
+    ≡ ordering_then (nat_cmp (big_endian 0 8 (drop at xs)) (big_endian 0 8 (drop at ys))) (slice_cmp nat_cmp (drop (at + 8) xs) (drop (at + 8) ys))
 eight_cmp xs ys at g h p q =
-    spelt-cmp 8 0 (drop at xs) (drop at ys) (omega (arith, length-drop at xs)) (omega (arith, length-drop at ys)) (AreBytes-drop at xs g) (AreBytes-drop at ys h)
-    ∙ ap (λ rest. ordering_then (nat_cmp (spelt 0 8 (drop at xs)) (spelt 0 8 (drop at ys))) (slice_cmp nat_cmp rest (drop 8 (drop at ys)))) (drop-drop 8 at xs)
-    ∙ ap (λ rest. ordering_then (nat_cmp (spelt 0 8 (drop at xs)) (spelt 0 8 (drop at ys))) (slice_cmp nat_cmp (drop (at + 8) xs) rest)) (drop-drop 8 at ys)
+    big_endian-cmp 8 0 (drop at xs) (drop at ys) (omega (arith, length-drop at xs)) (omega (arith, length-drop at ys)) (AreBytes-drop at xs g) (AreBytes-drop at ys h)
+    ∙ ap (λ rest. ordering_then (nat_cmp (big_endian 0 8 (drop at xs)) (big_endian 0 8 (drop at ys))) (slice_cmp nat_cmp rest (drop 8 (drop at ys)))) (drop-drop 8 at xs)
+    ∙ ap (λ rest. ordering_then (nat_cmp (big_endian 0 8 (drop at xs)) (big_endian 0 8 (drop at ys))) (slice_cmp nat_cmp (drop (at + 8) xs) rest)) (drop-drop 8 at ys)
 
 -- the lengths decide where one has no more bytes
 ended : (xs ys : List ℕ) (at n m : ℕ) → length xs ≡ n - at → length ys ≡ m - at → at ≡ min n m → nat_cmp n m ≡ slice_cmp nat_cmp xs ys

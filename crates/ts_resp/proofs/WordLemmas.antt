@@ -4,7 +4,7 @@ use Rattle.std.proofs.lemmas.Bool.{ltb-true, ltb-false}
 use Rattle.std.proofs.lemmas.List.{drop-drop, take-append-drop, length-take-le}
 use Rattle.ts_spec.specs.declared.wire.Kind.TheVariants.{Crlf}
 use Rattle.ts_spec.specs.declared.wire.WireLimits.{WireLimits}
-use Rattle.ts_spec.specs.Wire.{Partial, Mark, WordReturn, WordFeed, Goto, Fault, FEED, RETURN, want, after_move, after_word, after_length, on_body, read_on}
+use Rattle.ts_spec.specs.Wire.{Partial, Mark, WordReturn, WordFeed, Goto, Fault, FEED, RETURN, expect_byte, after_move, after_word, after_length, on_body, read_on}
 use Rattle.ts_spec.proofs.Streams.{read_on-nil, read_on-byte, read_on-word, read_on-part, after_length-body}
 use Rattle.ts_resp.specs.declared.header.Header.TheVariants as header
 use Rattle.ts_resp.specs.declared.header.FoundWord.{FoundWord}
@@ -65,7 +65,7 @@ IsWord-ended limits so_far bytes word (byte ∷ next ∷ rest) start end w t h =
     first_move : (limits : WireLimits) (after : Partial) (word : List ℕ) (next : ℕ) (more : List ℕ) (place begin : ℕ) (test : Bool)
         → after_move (if test then Goto (WordFeed after word) else Fault Crlf) place begin (λ from on. read_on limits (place + 1) from on (next ∷ more))
         ≡ after_move (if test then Goto (WordFeed after word) else Fault Crlf) place begin
-        (λ from on. after_move (want next FEED Crlf (after_word (after.words ++ word ∷ []) after.later after.room)) (place + 1) from (λ from on. read_on limits (place + 1 + 1) from on more))
+        (λ from on. after_move (expect_byte next FEED Crlf (after_word (after.words ++ word ∷ []) after.later after.room)) (place + 1) from (λ from on. read_on limits (place + 1 + 1) from on more))
     first_move limits after word next more place begin true = read_on-byte limits (place + 1) begin (WordFeed after word) next more _ refl
     first_move limits after word next more place begin false = refl
 

@@ -14,7 +14,7 @@ IsHeld (Short alloc len bytes) = len ≤ 30
 IsHeld (Long bytes) = Unit {0}
 
 -- the big-endian number of the next n bytes, appended to `so_far`
-abbrev pub spelt : (so_far n : ℕ) → List ℕ → ℕ
-spelt so_far zero bytes = so_far
-spelt so_far (suc n) [] = so_far
-spelt so_far (suc n) (byte ∷ bytes) = spelt (so_far * 256 + byte) n bytes
+abbrev pub big_endian : (so_far n : ℕ) → List ℕ → ℕ
+big_endian so_far zero bytes = so_far
+big_endian so_far (suc n) [] = so_far
+big_endian so_far (suc n) (byte ∷ bytes) = big_endian (so_far * 256 + byte) n bytes

@@ -14,7 +14,7 @@ mod text;
 mod word;
 
 pub use out::Out;
-pub use pair::{PAIR, put_pair};
+pub use pair::{PAIR_BYTES, write_pair};
 pub use parts::{GAP, close_array, encode_bulk, encode_count, open_array, reserve_items};
 pub use protocol::Protocol;
 pub use reader::{Next, Reader};

@@ -2,7 +2,7 @@
 ghost use Rattle.std.specs.Prelude.{◌≡◌, ◌+◌, ◌≤◌, min, length, drop};
 ghost use Rattle.std.specs.Ordering.{nat_cmp};
 ghost use Rattle.std.specs.Cmp.Lexicographic.{slice_cmp};
-ghost use Rattle.ts_resp.specs.Words.{spelt};
+ghost use Rattle.ts_resp.specs.Words.{big_endian};
 
 use std::cmp::Ordering;
 
@@ -27,7 +27,7 @@ pub(crate) fn order(a: &[u8], b: &[u8]) -> Ordering
 #[inline]
 fn eight(bytes: &[u8], at: usize) -> u64
     requires { at + 8 ≤ length bytes.now }
-    ensures { result ≡ spelt 0 8 (drop at bytes.now) }
+    ensures { result ≡ big_endian 0 8 (drop at bytes.now) }
 {
     u64::from_be_bytes([
         bytes[at],

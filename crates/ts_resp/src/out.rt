@@ -9,10 +9,10 @@ use std::marker::Model;
 use std::mem;
 
 // Initial capacity in bytes. Every error, integer and short reply fits.
-const FIRST_ROOM: usize = 128;
+const INITIAL_CAPACITY: usize = 128;
 
 // The largest capacity in bytes that is kept between replies.
-const MOST_SPARE: usize = 65_536;
+const MAX_IDLE_CAPACITY: usize = 65_536;
 
 /// A growable buffer of reply bytes.
 #[derive(Drop)]
@@ -34,7 +34,7 @@ impl Out {
         ensures empty { IfOk result (λ o. o.bytes ≡ []) }
         ensures room { IfOk result (λ o. 128 ≤ o.spare) }
     {
-        let bytes = BytesMut::with_capacity(alloc, FIRST_ROOM)?;
+        let bytes = BytesMut::with_capacity(alloc, INITIAL_CAPACITY)?;
         Ok(Out { bytes })
     }
 
@@ -63,11 +63,11 @@ impl Out {
         ensures room { min 128 (length self.old.bytes + self.old.spare) ≤ self.new.spare }
     {
         self.bytes.clear();
-        if self.bytes.capacity() <= MOST_SPARE {
+        if self.bytes.capacity() <= MAX_IDLE_CAPACITY {
             return;
         }
         let alloc = *self.bytes.allocator();
-        if let Ok(bytes) = BytesMut::with_capacity(alloc, FIRST_ROOM) {
+        if let Ok(bytes) = BytesMut::with_capacity(alloc, INITIAL_CAPACITY) {
             self.bytes = bytes;
         }
     }

@@ -4,22 +4,22 @@ ghost use Rattle.std.specs.Fmt.{decimal};
 ghost use Rattle.ts_spec.specs.Text.{Bulk, text, line_text};
 
 use crate::Out;
-use crate::pair::PAIR;
-use crate::reply::{begin_array, bulk_len, count_len, put_bulk};
+use crate::pair::PAIR_BYTES;
+use crate::reply::{begin_array, bulk_len, count_len, write_bulk};
 use itoa::Buffer;
 use std::alloc::AllocError;
 
-/// Reserves capacity for an array of `count` items of at most `PAIR` bytes each.
+/// Reserves capacity for an array of `count` items of at most `PAIR_BYTES` bytes each.
 pub fn reserve_items(count: usize, out: &mut Out) -> Result<(), AllocError>
     ensures room { OnOk result (64 * count + 64 ≤ out.new.spare) }
     ensures few { OnOk result (count < 2 ^ 64) }
     ensures bytes { out.new.bytes ≡ out.old.bytes }
     ensures kept { out.old.spare ≤ out.new.spare }
 {
-    let Some(items) = count.checked_mul(PAIR) else {
+    let Some(items) = count.checked_mul(PAIR_BYTES) else {
         return Err(AllocError);
     };
-    let Some(room) = items.checked_add(PAIR) else {
+    let Some(room) = items.checked_add(PAIR_BYTES) else {
         return Err(AllocError);
     };
     out.reserve(room)
@@ -38,7 +38,7 @@ pub fn encode_bulk(bytes: &[u8], out: &mut Out) -> Result<(), AllocError>
         Some(size) => out.reserve(size)?,
         None => return Err(AllocError),
     }
-    put_bulk(bytes, out);
+    write_bulk(bytes, out);
     Ok(())
 }
 

@@ -1,7 +1,7 @@
 // Protocol errors.
 ghost use Rattle.std.specs.Prelude.{◌≡◌, ◌++◌, Some, codes};
 ghost use Rattle.std.specs.Fmt.{decimal};
-ghost use Rattle.ts_spec.specs.Text.{fault_words};
+ghost use Rattle.ts_spec.specs.Text.{protocol_message};
 
 use std::fmt;
 use ts_spec::Kind;
@@ -17,7 +17,7 @@ pub struct Protocol {
 impl Protocol {
     /// The text of the error reply.
     pub fn message(&self) -> &'static str
-        ensures { result.now ≡ fault_words self.now.kind }
+        ensures { result.now ≡ protocol_message self.now.kind }
     {
         match self.kind {
             Kind::Multibulk => "ERR Protocol error: invalid multibulk length",
@@ -30,7 +30,7 @@ impl Protocol {
 }
 
 impl fmt::Debug for Protocol {
-    ghost debug_output = { λ p. Some (fault_words p.kind ++ codes " at byte " ++ decimal p.place) };
+    ghost debug_output = { λ p. Some (protocol_message p.kind ++ codes " at byte " ++ decimal p.place) };
 
     fn fmt<W: fmt::Write>(&self, f: &mut fmt::Formatter<W>) -> fmt::Result {
         write!(f, "{} at byte {}", self.message(), self.place)

@@ -9,7 +9,7 @@ use begin::first_begin;
 use bytes::BytesMut;
 use std::alloc::{AllocError, Global};
 use std::marker::Model;
-use steps::{emptied, give_back_room};
+use steps::{emptied, shrink_spare};
 use ts_spec::WireLimits;
 
 mod begin;
@@ -155,7 +155,7 @@ impl Reader {
             self.spare = spare;
         }
         if self.unread.is_empty() {
-            give_back_room(&mut self.unread);
+            shrink_spare(&mut self.unread);
         }
     }
 

@@ -105,16 +105,16 @@ pub fn put(reply: &Reply, out: &mut Out)
     ensures room { out.new.spare + length (text (reply_of reply.now)) ≡ out.old.spare }
 {
     match reply {
-        Reply::Simple(words) => put_line(b'+', words.as_bytes(), out),
-        Reply::Error(words) => put_line(b'-', words.as_bytes(), out),
+        Reply::Simple(words) => write_type_line(b'+', words.as_bytes(), out),
+        Reply::Error(words) => write_type_line(b'-', words.as_bytes(), out),
         Reply::Int(number) => {
             let mut buffer = Buffer::new();
-            put_line(b':', buffer.format(*number).as_bytes(), out);
+            write_type_line(b':', buffer.format(*number).as_bytes(), out);
         }
-        Reply::Value(cell) => put_line(b'+', shown(*cell, &mut [0; 32]), out),
-        Reply::Bulk(word) => put_bulk(word.bytes(), out),
+        Reply::Value(cell) => write_type_line(b'+', shown(*cell, &mut [0; 32]), out),
+        Reply::Bulk(word) => write_bulk(word.bytes(), out),
         Reply::Nil => out.add(b"$-1\r\n"),
-        Reply::Array(replies) => put_array(replies, out),
+        Reply::Array(replies) => write_array(replies, out),
     }
 }
 
@@ -135,7 +135,7 @@ pub fn encode(reply: &Reply, out: &mut Out) -> Result<(), AllocError>
     Ok(())
 }
 
-pub(crate) fn put_line(first: u8, others: &[u8], out: &mut Out)
+pub(crate) fn write_type_line(first: u8, others: &[u8], out: &mut Out)
     requires { length (line_text first others.now) ≤ out.old.spare }
     ensures bytes { out.new.bytes ≡ out.old.bytes ++ line_text first others.now }
     ensures room { out.new.spare + length (line_text first others.now) ≡ out.old.spare }
@@ -145,13 +145,13 @@ pub(crate) fn put_line(first: u8, others: &[u8], out: &mut Out)
     out.add(b"\r\n");
 }
 
-fn put_count(first: u8, count: usize, out: &mut Out)
+fn write_count(first: u8, count: usize, out: &mut Out)
     requires { length (line_text first (decimal count)) ≤ out.old.spare }
     ensures bytes { out.new.bytes ≡ out.old.bytes ++ line_text first (decimal count) }
     ensures room { out.new.spare + length (line_text first (decimal count)) ≡ out.old.spare }
 {
     let mut buffer = Buffer::new();
-    put_line(first, buffer.format(count).as_bytes(), out);
+    write_type_line(first, buffer.format(count).as_bytes(), out);
 }
 
 /// Writes the header of an array of `count` items into reserved capacity. Allocates nothing.
@@ -160,27 +160,27 @@ pub fn begin_array(count: usize, out: &mut Out)
     ensures bytes { out.new.bytes ≡ out.old.bytes ++ line_text 42 (decimal count) }
     ensures room { out.new.spare + length (line_text 42 (decimal count)) ≡ out.old.spare }
 {
-    put_count(b'*', count, out);
+    write_count(b'*', count, out);
 }
 
-pub(crate) fn put_bulk(bytes: &[u8], out: &mut Out)
+pub(crate) fn write_bulk(bytes: &[u8], out: &mut Out)
     requires { length (text (Bulk bytes.now)) ≤ out.old.spare }
     ensures bytes { out.new.bytes ≡ out.old.bytes ++ text (Bulk bytes.now) }
     ensures room { out.new.spare + length (text (Bulk bytes.now)) ≡ out.old.spare }
 {
-    put_count(b'$', bytes.len(), out);
+    write_count(b'$', bytes.len(), out);
     out.add(bytes);
     out.add(b"\r\n");
 }
 
 // Encodes an array.
 #[cycle(put)]
-fn put_array(replies: &[Reply], out: &mut Out)
+fn write_array(replies: &[Reply], out: &mut Out)
     requires { length (text (Array (all_of replies.now))) ≤ out.old.spare }
     ensures bytes { out.new.bytes ≡ out.old.bytes ++ text (Array (all_of replies.now)) }
     ensures room { out.new.spare + length (text (Array (all_of replies.now))) ≡ out.old.spare }
 {
-    put_count(b'*', replies.len(), out);
+    write_count(b'*', replies.len(), out);
     for reply in replies {
         put(reply, out);
     }

@@ -3,19 +3,19 @@ use Rattle.std.proofs.Common.{◌≡◌, ℕ, ◌<◌, ◌≤◌, min, Bool, tru
 use Rattle.std.specs.Prelude.{Result, Ok}
 use Rattle.std.proofs.lemmas.Bool.{false≢true}
 use Rattle.ts_spec.specs.Sample.{Point, MAX_TIME, IsAscending, at, at_times, between, is_within}
-use Rattle.ts_spec.specs.Answer.{is_listed}
+use Rattle.ts_spec.specs.Answer.{contains_time}
 use Rattle.ts_spec.specs.Bucket.{Grid, start, starts}
 use Rattle.ts_spec.specs.Key.{Key}
 use Rattle.ts_spec.specs.Valid.{Every}
 use Rattle.ts_spec.specs.Rules.{is_past}
-use Rattle.ts_spec.specs.Mending.{lies_in, running_without, deleted_rule, deleted_rows, loses, rows_of}
+use Rattle.ts_spec.specs.StoredUpdates.{lies_in, running_without, deleted_rule, deleted_rows, loses, rows_of}
 use Rattle.ts_spec.proofs.Samples.{at-time, at-times, ascending-times, ascending-same}
 use Rattle.ts_series.specs.History.{History, IsKept, list_of}
 use Rattle.ts_rules.specs.declared.rule.Rule.{Rule}
 use Rattle.ts_rules.specs.declared.plan.RulePlan.{RulePlan}
 use Rattle.ts_rules.specs.declared.plan.RuleFault.{RuleFault}
-use Rattle.ts_rules.specs.Rules.{kept_with_dest, IsChanged}
-use Rattle.ts_rules.specs.Plans.{IsMendedBy, IsPlanned}
+use Rattle.ts_rules.specs.Rules.{stored_rule_for, IsChanged}
+use Rattle.ts_rules.specs.Plans.{IsUpdatedBy, IsPlanned}
 use Rattle.ts_rules.specs.PlansOfDeletions.{IsPlanOfDeletion}
 use Rattle.ts_rules.specs.Deletions.{gone_of, left_of, is_lost, rows_left, rule_left}
 use Rattle.ts_rules.proofs.Mended.{stays}
@@ -30,9 +30,9 @@ empty [] e = refl
 empty (p ∷ ps) e = absurd (omega (arith, e))
 
 same-rule : (left : List Point) (r : Rule) → IsChanged (deleted_rule [] left) r r
-same-rule left r = record { dest = refl; kept = λ k. (λ i. record (kept_with_dest k r) { running = go k r.current i }) }
+same-rule left r = record { dest = refl; kept = λ k. (λ i. record (stored_rule_for k r) { running = go k r.current i }) }
   where
-    go : (k : Key) (o : Option ℕ) → r.running ≡ running_without [] left (kept_with_dest k r) o
+    go : (k : Key) (o : Option ℕ) → r.running ≡ running_without [] left (stored_rule_for k r) o
     go k None = refl
     go k (Some o) = refl
 
@@ -44,17 +44,17 @@ module _ (r : Rule) (source h : History) (from to limit : ℕ) (none : length (b
   lost-none t = ap (λ (ps : List Point). is_past r.current t && lies_in r.grid ps t) gone-none ∙ and-false (is_past r.current t)
 
   -- Nothing changes.
-  nothing-left : IsChanged (rule_left source from to) r r × IsMendedBy limit (is_lost r source from to) (rows_left r source from to h.born) h None
+  nothing-left : IsChanged (rule_left source from to) r r × IsUpdatedBy limit (is_lost r source from to) (rows_left r source from to h.born) h None
   nothing-left = (
     subst (λ (ps : List Point). IsChanged (deleted_rule ps (left_of source from to)) r r) (sym gone-none) (same-rule (left_of source from to) r),
     stays limit (is_lost r source from to) (rows_left r source from to h.born) h kept fits
-        (ap (rows_of (left_of source from to) h.born (kept_with_dest [] r)) (none-pass (is_lost r source from to) (starts r.grid (left_of source from to)) lost-none)) lost-none,
+        (ap (rows_of (left_of source from to) h.born (stored_rule_for [] r)) (none-pass (is_lost r source from to) (starts r.grid (left_of source from to)) lost-none)) lost-none,
   )
 
   -- So the plan that leaves both as they are is that of the deletion.
   pub unchanged-planned : (plan : RulePlan) → plan.rule ≡ r → plan.dest ≡ None → IsPlanOfDeletion limit r source from to h (Ok plan)
   unchanged-planned plan rule dest =
-      subst (λ (x : Rule × Option Plan). IsChanged (rule_left source from to) r x.0 × IsMendedBy limit (is_lost r source from to) (rows_left r source from to h.born) h x.1)
+      subst (λ (x : Rule × Option Plan). IsChanged (rule_left source from to) r x.0 × IsUpdatedBy limit (is_lost r source from to) (rows_left r source from to h.born) h x.1)
       (λ i. (sym rule i, sym dest i)) nothing-left
 
 -- an interval that ends before it begins has no samples
@@ -64,7 +64,7 @@ none-between from to ps h =
     (λ e. (let low : from ≤ t = within-from from to t e in let up : t ≤ to = within-to from to t e in absurd (omega (arith, h, low, up))))))
 
 -- there are no samples where none lies in a bucket
-pub none-lies : (g : Grid) (ps : List Point) (bs : List ℕ) → ((b : ℕ) → is_listed bs b ≡ lies_in g ps b) → length bs ≡ 0 → length ps ≡ 0
+pub none-lies : (g : Grid) (ps : List Point) (bs : List ℕ) → ((b : ℕ) → contains_time bs b ≡ lies_in g ps b) → length bs ≡ 0 → length ps ≡ 0
 none-lies g [] bs h e = refl
 none-lies g (p ∷ ps) [] h e = absurd (false≢true (h (start g p.time) ∙ ap (λ (x : Bool). x || lies_in g ps (start g p.time)) (eq-eqb (start g p.time) (start g p.time) refl)))
 none-lies g (p ∷ ps) (b ∷ bs) h e = absurd (omega (arith, e))
@@ -103,5 +103,5 @@ module _ (source : History) (from to : ℕ) (a : IsAscending (list_of source)) (
   -- A plan up to the greatest time is one past it.
   pub plan-clamped : (r : Rule) (dest : History) (limit end : ℕ) (result : Result RulePlan RuleFault) → end ≡ min to MAX_TIME → IsPlanOfDeletion limit r source from end dest result → IsPlanOfDeletion limit r source from to dest result
   plan-clamped r dest limit end result e x =
-      subst (λ (ps : List Point × List Point). IsPlanned limit (deleted_rule ps.0 ps.1) (loses ps.0 (kept_with_dest [] r)) (deleted_rows ps.0 ps.1 dest.born (kept_with_dest [] r)) r dest result)
+      subst (λ (ps : List Point × List Point). IsPlanned limit (deleted_rule ps.0 ps.1) (loses ps.0 (stored_rule_for [] r)) (deleted_rows ps.0 ps.1 dest.born (stored_rule_for [] r)) r dest result)
       (λ i. (gone-clamped i, left-clamped i)) (subst (λ n. IsPlanOfDeletion limit r source from n dest result) e x)

@@ -8,18 +8,18 @@ use Rattle.ts_spec.specs.Bucket.{start, starts}
 use Rattle.ts_spec.specs.Aggregate.{Summary, result_of}
 use Rattle.ts_spec.specs.Rules.{is_past}
 use Rattle.ts_spec.specs.Valid.{IsUpTo, Every}
-use Rattle.ts_spec.specs.Mending.{bucket_row, counted_anew, high_with, lies_in, rows_of}
+use Rattle.ts_spec.specs.StoredUpdates.{bucket_row, recounted_bucket, high_after_rows, lies_in, rows_of}
 use Rattle.ts_spec.proofs.Buckets.{start-order}
 use Rattle.ts_spec.proofs.Samples.{at-time}
 use Rattle.ts_spec.proofs.TwoBuckets.{loses-within}
 use Rattle.ts_spec.proofs.TwoRows.{end_rows, two-rows}
-use Rattle.ts_spec.proofs.Spans.{span_rows, high-span, mended-deletion}
+use Rattle.ts_spec.proofs.Spans.{span_rows, high-span, updated_list-deletion}
 use Rattle.ts_series.specs.History.{History, IsKept, list_of}
 use Rattle.ts_series.specs.Plan.{Plan, AreWithin, AreMade}
 use Rattle.ts_rules.specs.declared.rule.Rule.{Rule}
 use Rattle.ts_rules.specs.declared.plan.RuleFault.{RuleFault}
-use Rattle.ts_rules.specs.Rules.{kept_with_dest, one_of}
-use Rattle.ts_rules.specs.Plans.{mended_list, IsMendedBy, IsMending}
+use Rattle.ts_rules.specs.Rules.{stored_rule_for, one_of}
+use Rattle.ts_rules.specs.Plans.{list_after_update, IsUpdatedBy, IsUpdate}
 use Rattle.ts_rules.specs.Deletions.{gone_of, left_of, is_lost, rows_left, row_left, span_left}
 use Rattle.ts_rules.proofs.Mended.{mending-same, stays}
 use Rattle.ts_rules.proofs.Stays.{IsRowAt, span-put, span-ascending, span-within, span-made}
@@ -39,15 +39,15 @@ module _ (r : Rule) (source : History) (from to : ℕ) where
   open-first : is_past r.current (start r.grid from) ≡ false → (t : ℕ) → is_lost r source from to t ≡ false
   open-first e t =
       true-unless (is_lost r source from to t)
-      (λ x. false≢true (sym e ∙ past-before r.current (start r.grid from) t (within-from (start r.grid from) (start r.grid to) t (loses-within (kept_with_dest [] r) from to t (list_of source) x))
+      (λ x. false≢true (sym e ∙ past-before r.current (start r.grid from) t (within-from (start r.grid from) (start r.grid to) t (loses-within (stored_rule_for [] r) from to t (list_of source) x))
       (and_parts (is_past r.current t) (lies_in r.grid (gone_of source from to) t) x).0))
 
   -- Then the destination stays as it is.
   pub dest-stays : (limit : ℕ) (h : History) → IsKept h → length (list_of h) ≤ limit → is_past r.current (start r.grid from) ≡ false →
-      IsMendedBy limit (is_lost r source from to) (rows_left r source from to h.born) h None
+      IsUpdatedBy limit (is_lost r source from to) (rows_left r source from to h.born) h None
   dest-stays limit h kept fits e =
       stays limit (is_lost r source from to) (rows_left r source from to h.born) h kept fits
-      (ap (rows_of (left_of source from to) h.born (kept_with_dest [] r)) (none-pass (is_lost r source from to) (starts r.grid (left_of source from to)) (open-first e)))
+      (ap (rows_of (left_of source from to) h.born (stored_rule_for [] r)) (none-pass (is_lost r source from to) (starts r.grid (left_of source from to)) (open-first e)))
       (open-first e)
 
 -- ---- the rows of the two ends
@@ -59,7 +59,7 @@ pub record RowOf (gone : ℕ → Bool) (b born : ℕ) (rows : List Point) : Type
   pub lies : IsRowAt gone b born row
 
 row-of : (r : Rule) (source : History) (from to born b : ℕ) → RowOf (is_lost r source from to) b born (row_left r source from to born b)
-row-of r source from to born b = go (is_lost r source from to b) refl (counted_anew (kept_with_dest [] r) b (left_of source from to))
+row-of r source from to born b = go (is_lost r source from to b) refl (recounted_bucket (stored_rule_for [] r) b (left_of source from to))
   where
     go : (x : Bool) → is_lost r source from to b ≡ x → (s : Summary) → RowOf (is_lost r source from to) b born (if x then bucket_row r.agg born b s else [])
     go false e s = record { row = None; is = refl; lies = tt }
@@ -118,7 +118,7 @@ module _ (r : Rule) (source h : History) (from to : ℕ) (order : from ≤ to) (
 
   -- it is what the definition has there
   span-rows : span_left r source from to h.born low up (list_of h) ≡
-      span_rows (is_lost r source from to) (end_rows (gone_of source from to) (left_of source from to) h.born (kept_with_dest [] r) low up) low up (list_of h)
+      span_rows (is_lost r source from to) (end_rows (gone_of source from to) (left_of source from to) h.born (stored_rule_for [] r) low up) low up (list_of h)
   span-rows =
       span-is
       ∙ span-put (is_lost r source from to) low up h.born (list_of h) kept.ascending made first.row last.row first.lies last.lies last.apart
@@ -134,13 +134,13 @@ module _ (r : Rule) (source h : History) (from to : ℕ) (order : from ≤ to) (
   left-made = subst (AreMade h.born) (sym span-is) (span-made (is_lost r source from to) low up h.born (list_of h) kept.ascending made first.row last.row ordered first.lies last.lies)
 
   -- The mending of the interval is that of the deletion.
-  pub dest-mended : (limit : ℕ) (result : Result (Option Plan) RuleFault) → IsMending limit (is_within low up) (span_left r source from to h.born low up (list_of h)) h result →
-      IsMending limit (is_lost r source from to) (rows_left r source from to h.born) h result
-  dest-mended limit result x =
+  pub dest-updated_list : (limit : ℕ) (result : Result (Option Plan) RuleFault) → IsUpdate limit (is_within low up) (span_left r source from to h.born low up (list_of h)) h result →
+      IsUpdate limit (is_lost r source from to) (rows_left r source from to h.born) h result
+  dest-updated_list limit result x =
       mending-same limit (is_within low up) (is_lost r source from to) (span_left r source from to h.born low up (list_of h)) (rows_left r source from to h.born) h
-      (ap (λ (rows : List Point). mended_list (is_within low up) rows h) span-rows
-      ∙ sym (mended-deletion h.options.retention h.high from to (list_of source) h.born (kept_with_dest [] r) (list_of h) order ascending kept.ascending below))
-      (ap (λ (rows : List Point). high_with rows h.high) span-rows
-      ∙ high-span (is_lost r source from to) (end_rows (gone_of source from to) (left_of source from to) h.born (kept_with_dest [] r) low up) low up (list_of h) h.high below
-      ∙ ap (λ (rows : List Point). high_with rows h.high) (sym (two-rows from to (list_of source) h.born (kept_with_dest [] r) order ascending)))
+      (ap (λ (rows : List Point). list_after_update (is_within low up) rows h) span-rows
+      ∙ sym (updated_list-deletion h.options.retention h.high from to (list_of source) h.born (stored_rule_for [] r) (list_of h) order ascending kept.ascending below))
+      (ap (λ (rows : List Point). high_after_rows rows h.high) span-rows
+      ∙ high-span (is_lost r source from to) (end_rows (gone_of source from to) (left_of source from to) h.born (stored_rule_for [] r) low up) low up (list_of h) h.high below
+      ∙ ap (λ (rows : List Point). high_after_rows rows h.high) (sym (two-rows from to (list_of source) h.born (stored_rule_for [] r) order ascending)))
       result x

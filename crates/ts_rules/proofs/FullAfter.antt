@@ -7,8 +7,8 @@ use Rattle.ts_spec.specs.Sample.{Point, IsAscending, at, at_times, between, is_w
 use Rattle.ts_spec.specs.Bucket.{start, starts}
 use Rattle.ts_spec.specs.Aggregate.{result_of}
 use Rattle.ts_spec.specs.State.{edge_of}
-use Rattle.ts_spec.specs.Kept.{KeptRule}
-use Rattle.ts_spec.specs.Mending.{counted_anew, high_with, rows_of}
+use Rattle.ts_spec.specs.StoredSeries.{StoredRule}
+use Rattle.ts_spec.specs.StoredUpdates.{recounted_bucket, high_after_rows, rows_of}
 use Rattle.ts_spec.proofs.Samples.{at-after, at-put_all, at-times, ascending-times}
 use Rattle.ts_spec.proofs.TwoBuckets.{loses-within}
 use Rattle.ts_spec.proofs.TwoRows.{deleted_rows-ascending}
@@ -17,8 +17,8 @@ use Rattle.ts_series.specs.History.{History, list_of, reach, limit_for}
 use Rattle.ts_series.proofs.Counting.{length-put, length-cons_if, one_if, times-fewer}
 use Rattle.ts_series.proofs.Reach.{new-within-reach}
 use Rattle.ts_rules.specs.declared.rule.Rule.{Rule}
-use Rattle.ts_rules.specs.Rules.{kept_with_dest}
-use Rattle.ts_rules.specs.Plans.{mended_list}
+use Rattle.ts_rules.specs.Rules.{stored_rule_for}
+use Rattle.ts_rules.specs.Plans.{list_after_update}
 use Rattle.ts_rules.specs.Deletions.{gone_of, left_of, is_lost, rows_left}
 use Rattle.ts_rules.proofs.Times.{same-test, within, within-from, within-to}
 
@@ -29,11 +29,11 @@ abbrev StandFor : (gone : ℕ → Bool) → List Point → Type 0
 StandFor gone [] = Unit {0}
 StandFor gone (p ∷ rows) = (gone p.time ≡ true) × StandFor gone rows
 
-mended-count : (test gone : ℕ → Bool) (rows ps : List Point) → IsAscending rows → StandFor gone rows →
+updated_list-count : (test gone : ℕ → Bool) (rows ps : List Point) → IsAscending rows → StandFor gone rows →
     length (at_times test (put_all rows (at_times (λ t. not (gone t)) ps))) ≡ length (at_times test rows) + length (at_times test (at_times (λ t. not (gone t)) ps))
-mended-count test gone [] ps rises stand = omega arith
-mended-count test gone (p ∷ rows) ps rises stand =
-    omega (arith, length-put test p (put_all rows (at_times (λ t. not (gone t)) ps)) none, mended-count test gone rows ps rises.1 stand.1, length-cons_if (test p.time) p (at_times test rows))
+updated_list-count test gone [] ps rises stand = omega arith
+updated_list-count test gone (p ∷ rows) ps rises stand =
+    omega (arith, length-put test p (put_all rows (at_times (λ t. not (gone t)) ps)) none, updated_list-count test gone rows ps rises.1 stand.1, length-cons_if (test p.time) p (at_times test rows))
   where
     none : at p.time (put_all rows (at_times (λ t. not (gone t)) ps)) ≡ None
     none =
@@ -60,21 +60,21 @@ stay-and-go test gone (p ∷ ps) = go (test p.time) (gone p.time) refl (stay-and
 
 -- ---- the rows of a deletion
 
-rows-stand : (gone : ℕ → Bool) (left : List Point) (born : ℕ) (q : KeptRule) (bs : List ℕ) → StandFor gone (rows_of left born q (filter gone bs))
+rows-stand : (gone : ℕ → Bool) (left : List Point) (born : ℕ) (q : StoredRule) (bs : List ℕ) → StandFor gone (rows_of left born q (filter gone bs))
 rows-stand gone left born q [] = tt
 rows-stand gone left born q (b ∷ bs) = go (gone b) refl (rows-stand gone left born q bs)
   where
-    row : (x : Bool) (rows : List Point) → gone b ≡ true → StandFor gone rows → StandFor gone ((if x then [] else record { time = b; value = result_of q.agg (counted_anew q b left); made = born } ∷ []) ++ rows)
+    row : (x : Bool) (rows : List Point) → gone b ≡ true → StandFor gone rows → StandFor gone ((if x then [] else record { time = b; value = result_of q.agg (recounted_bucket q b left); made = born } ∷ []) ++ rows)
     row true rows e h = h
     row false rows e h = (e, h)
 
     go : (x : Bool) → gone b ≡ x → StandFor gone (rows_of left born q (filter gone bs)) → StandFor gone (rows_of left born q (cond x (b ∷ filter gone bs) (filter gone bs)))
-    go true e h = row ((counted_anew q b left).count == 0) (rows_of left born q (filter gone bs)) e h
+    go true e h = row ((recounted_bucket q b left).count == 0) (rows_of left born q (filter gone bs)) e h
     go false e h = h
 
 pub rows_left-ascending : (r : Rule) (source : History) (from to born : ℕ) → IsAscending (list_of source) → IsAscending (rows_left r source from to born)
 rows_left-ascending r source from to born a =
-    deleted_rows-ascending (gone_of source from to) (left_of source from to) born (kept_with_dest [] r) (ascending-times (λ t. not (is_within from to t)) (list_of source) a)
+    deleted_rows-ascending (gone_of source from to) (left_of source from to) born (stored_rule_for [] r) (ascending-times (λ t. not (is_within from to t)) (list_of source) a)
 
 module _ (r : Rule) (source h : History) (from to : ℕ) (ascending : IsAscending (list_of source)) where
   abbrev lost : ℕ → Bool
@@ -91,13 +91,13 @@ module _ (r : Rule) (source h : History) (from to : ℕ) (ascending : IsAscendin
       let low : max (start r.grid from) edge ≤ t = within-from (max (start r.grid from) edge) (start r.grid to) t x.0 in
       and_from (nat_le edge t) (lost t) (le-leb edge t (omega (arith, low))) x.1))
       (λ e. (let x = and_parts (nat_le edge t) (lost t) e in
-      let inside = loses-within (kept_with_dest [] r) from to t (list_of source) x.1 in
+      let inside = loses-within (stored_rule_for [] r) from to t (list_of source) x.1 in
       let low : start r.grid from ≤ t = within-from (start r.grid from) (start r.grid to) t inside in
       let since : edge ≤ t = leb-true edge t x.0 in
       and_from (is_within (max (start r.grid from) edge) (start r.grid to) t) (lost t)
       (within (max (start r.grid from) edge) (start r.grid to) t (omega (arith, low, since)) (within-to (start r.grid from) (start r.grid to) t inside)) x.1))))
 
-  module _ {edge first last removed count written : ℕ} {rows shown : List Point} (is_rows : rows ≡ rows_left r source from to h.born) (is_edge : edge ≡ edge_of h.options.retention (high_with rows h.high))
+  module _ {edge first last removed count written : ℕ} {rows shown : List Point} (is_rows : rows ≡ rows_left r source from to h.born) (is_edge : edge ≡ edge_of h.options.retention (high_after_rows rows h.high))
       (begins : first ≡ start r.grid from) (ends : last ≡ start r.grid to) (is_shown : shown ≡ between (max first edge) last (list_of h)) (is_removed : removed ≡ length (at_times lost shown))
       (is_count : count ≡ length (at_times (nat_le edge) (list_of h))) (is_written : written ≡ length (at_times (nat_le edge) rows)) where
     all-removed : removed ≡ length (at_times (λ t. nat_le edge t && lost t) (list_of h))
@@ -109,17 +109,17 @@ module _ (r : Rule) (source h : History) (from to : ℕ) (ascending : IsAscendin
     pub removed-within : removed ≤ count
     removed-within = omega (arith, all-removed, is_count, stay-and-go (nat_le edge) lost (list_of h))
 
-    pub count-after : count - removed + written ≡ length (mended_list lost (rows_left r source from to h.born) h)
+    pub count-after : count - removed + written ≡ length (list_after_update lost (rows_left r source from to h.born) h)
     count-after =
         let all : length (at_times (nat_le edge) (put_all rows (at_times (λ t. not (lost t)) (list_of h)))) ≡ length (at_times (nat_le edge) rows) + length (at_times (nat_le edge) (at_times (λ t. not (lost t)) (list_of h))) =
-        mended-count (nat_le edge) lost rows (list_of h)
+        updated_list-count (nat_le edge) lost rows (list_of h)
         (subst IsAscending (sym is_rows) (rows_left-ascending r source from to h.born ascending))
-        (subst (StandFor lost) (sym is_rows) (rows-stand lost (left_of source from to) h.born (kept_with_dest [] r) (starts r.grid (left_of source from to)))) in
-        let same : length (at_times (nat_le edge) (put_all rows (at_times (λ t. not (lost t)) (list_of h)))) ≡ length (mended_list lost (rows_left r source from to h.born) h) =
-        (λ i. length (at_times (nat_le (is_edge i)) (put_all rows (at_times (λ t. not (lost t)) (list_of h))))) ∙ ap (λ (qs : List Point). length (mended_list lost qs h)) is_rows in
+        (subst (StandFor lost) (sym is_rows) (rows-stand lost (left_of source from to) h.born (stored_rule_for [] r) (starts r.grid (left_of source from to)))) in
+        let same : length (at_times (nat_le edge) (put_all rows (at_times (λ t. not (lost t)) (list_of h)))) ≡ length (list_after_update lost (rows_left r source from to h.born) h) =
+        (λ i. length (at_times (nat_le (is_edge i)) (put_all rows (at_times (λ t. not (lost t)) (list_of h))))) ∙ ap (λ (qs : List Point). length (list_after_update lost qs h)) is_rows in
         omega (arith, all-removed, is_count, is_written, all, same, stay-and-go (nat_le edge) lost (list_of h))
 
-    pub full-after : (limit : ℕ) → nat_lt limit (count - removed + written) ≡ nat_lt limit (length (mended_list lost (rows_left r source from to h.born) h))
+    pub full-after : (limit : ℕ) → nat_lt limit (count - removed + written) ≡ nat_lt limit (length (list_after_update lost (rows_left r source from to h.born) h))
     full-after limit = ap (nat_lt limit) count-after
 
     -- how many are shown between the first start and the last

@@ -1,6 +1,6 @@
 pub mod Times
 pub mod Around
-pub mod Walks
+pub mod IntervalReading
 pub mod Sizes
 pub mod Meeting
 pub mod Counts
@@ -9,7 +9,7 @@ pub mod Least
 pub mod Shared
 pub mod CountWritten
 pub mod EndsLeft
-pub mod Losing
+pub mod LostBucketList
 pub mod Written
 pub mod EasyWrites
 pub mod TouchedEnds

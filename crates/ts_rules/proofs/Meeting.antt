@@ -3,7 +3,7 @@ use Rattle.std.proofs.Common.{◌≡◌, ◌≢◌, ℕ, suc, ◌+◌, ◌<◌, 
 use Rattle.std.proofs.lemmas.Bool.{false≢true}
 use Rattle.ts_spec.specs.Sample.{Point, IsAfter, IsAscending, at_times, first_of}
 use Rattle.ts_spec.specs.Bucket.{Grid, start}
-use Rattle.ts_spec.specs.Mending.{lies_in}
+use Rattle.ts_spec.specs.StoredUpdates.{lies_in}
 use Rattle.ts_spec.proofs.Buckets.{start-order}
 use Rattle.ts_series.proofs.EarlyLate.{after-less}
 use Rattle.ts_series.proofs.Counting.{one_if, length-cons_if}

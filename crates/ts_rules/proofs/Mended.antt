@@ -5,18 +5,18 @@ use Rattle.std.proofs.lemmas.Bool.{false≢true}
 use Rattle.ts_spec.specs.Sample.{Point, at, at_times, is_within, outside, put}
 use Rattle.ts_spec.specs.State.{edge_of}
 use Rattle.ts_spec.specs.Rules.{raised}
-use Rattle.ts_spec.specs.Mending.{high_with}
+use Rattle.ts_spec.specs.StoredUpdates.{high_after_rows}
 use Rattle.ts_spec.proofs.Samples.{at-times, at-put, ascending-times, ascending-put, ascending-same}
 use Rattle.ts_series.specs.History.{History, IsKept, list_of}
 use Rattle.ts_series.specs.Plan.{Plan}
 use Rattle.ts_rules.specs.declared.plan.RuleFault.{RuleFault}
 use Rattle.ts_rules.specs.declared.plan.RuleFault.TheVariants.{Full, Memory}
-use Rattle.ts_rules.specs.Plans.{mended_list, IsMendedBy, IsUnplanned, IsMending}
+use Rattle.ts_rules.specs.Plans.{list_after_update, IsUpdatedBy, IsUnplanned, IsUpdate}
 use Rattle.ts_rules.proofs.Times.{within-from, within-to}
 
 -- The answer to a mending is one to another that comes to the same.
-pub mending-same : (limit : ℕ) (gone other : ℕ → Bool) (rows others : List Point) (h : History) → mended_list gone rows h ≡ mended_list other others h → high_with rows h.high ≡ high_with others h.high →
-    (result : Result (Option Plan) RuleFault) → IsMending limit gone rows h result → IsMending limit other others h result
+pub mending-same : (limit : ℕ) (gone other : ℕ → Bool) (rows others : List Point) (h : History) → list_after_update gone rows h ≡ list_after_update other others h → high_after_rows rows h.high ≡ high_after_rows others h.high →
+    (result : Result (Option Plan) RuleFault) → IsUpdate limit gone rows h result → IsUpdate limit other others h result
 mending-same limit gone other rows others h e f (Ok plan) x = record {
   made_for = x.made_for;
   list = x.list ∙ e;
@@ -36,19 +36,19 @@ every : (ps : List Point) → at_times (λ t. not false) ps ≡ ps
 every [] = refl
 every (p ∷ ps) = ap (λ (qs : List Point). p ∷ qs) (every ps)
 
-pub unmended : (gone : ℕ → Bool) (h : History) → IsKept h → ((t : ℕ) → gone t ≡ false) → mended_list gone [] h ≡ list_of h
+pub unmended : (gone : ℕ → Bool) (h : History) → IsKept h → ((t : ℕ) → gone t ≡ false) → list_after_update gone [] h ≡ list_of h
 unmended gone h kept none =
     ap (λ (ps : List Point). at_times (nat_le (edge_of h.options.retention h.high)) ps) ((λ i. at_times (λ t. not (none t i)) (list_of h)) ∙ every (list_of h))
     ∙ kept.past_edge
 
 -- A destination that is not told of stays as it is.
-pub stays : (limit : ℕ) (gone : ℕ → Bool) (rows : List Point) (h : History) → IsKept h → length (list_of h) ≤ limit → rows ≡ [] → ((t : ℕ) → gone t ≡ false) → IsMendedBy limit gone rows h None
+pub stays : (limit : ℕ) (gone : ℕ → Bool) (rows : List Point) (h : History) → IsKept h → length (list_of h) ≤ limit → rows ≡ [] → ((t : ℕ) → gone t ≡ false) → IsUpdatedBy limit gone rows h None
 stays limit gone rows h kept fits e none =
-    let same : mended_list gone rows h ≡ list_of h = ap (λ (ps : List Point). mended_list gone ps h) e ∙ unmended gone h kept none in
+    let same : list_after_update gone rows h ≡ list_of h = ap (λ (ps : List Point). list_after_update gone ps h) e ∙ unmended gone h kept none in
     record {
       made_for = tt;
       list = sym same;
-      high = sym (ap (λ (ps : List Point). high_with ps h.high) e);
+      high = sym (ap (λ (ps : List Point). high_after_rows ps h.high) e);
       options = refl;
       fits = subst (λ (ps : List Point). length ps ≤ limit) (sym same) fits;
     }
@@ -56,7 +56,7 @@ stays limit gone rows h kept fits e none =
 -- ---- with one row
 
 -- A row takes the place of the sample at its time and of no other.
-pub one-row : (t : ℕ) (p : Point) (h : History) → IsKept h → t ≡ p.time → mended_list (is_within t t) (p ∷ []) h ≡ mended_list (λ u. false) (p ∷ []) h
+pub one-row : (t : ℕ) (p : Point) (h : History) → IsKept h → t ≡ p.time → list_after_update (is_within t t) (p ∷ []) h ≡ list_after_update (λ u. false) (p ∷ []) h
 one-row t p h kept e =
     ap (λ (ps : List Point). at_times (nat_le (edge_of h.options.retention (raised p.time h.high))) ps)
     (ascending-same (put p (outside t t (list_of h))) (put p (at_times (λ u. not false) (list_of h)))
@@ -81,5 +81,5 @@ one-row t p h kept e =
 
 -- The answer for one row, or none.
 pub mending-row : (limit : ℕ) (t : ℕ) (p : Point) (h : History) → IsKept h → t ≡ p.time → (result : Result (Option Plan) RuleFault) →
-    IsMending limit (is_within t t) (p ∷ []) h result → IsMending limit (λ u. false) (p ∷ []) h result
+    IsUpdate limit (is_within t t) (p ∷ []) h result → IsUpdate limit (λ u. false) (p ∷ []) h result
 mending-row limit t p h kept e result x = mending-same limit (is_within t t) (λ u. false) (p ∷ []) (p ∷ []) h (one-row t p h kept e) refl result x

@@ -5,7 +5,7 @@ use Rattle.ts_spec.specs.Bucket.{start}
 use Rattle.ts_spec.specs.Rules.{is_past}
 use Rattle.ts_series.specs.History.{History, list_of}
 use Rattle.ts_rules.specs.declared.rule.Rule.{Rule}
-use Rattle.ts_rules.specs.Room.{count_touched}
+use Rattle.ts_rules.specs.DeletionBuffers.{count_touched}
 
 pub touched-closed : (r : Rule) (from to first last : ℕ) (dest : History) (closed : Bool) → first ≡ start r.grid from → last ≡ start r.grid to → closed ≡ is_past r.current first → closed ≡ true →
     count_touched r from to dest ≡ length (between first last (list_of dest))

@@ -5,12 +5,12 @@ use Rattle.ts_spec.specs.Sample.{Point, IsAfter, IsAscending, at_times, between,
 use Rattle.ts_spec.specs.Bucket.{Grid, start}
 use Rattle.ts_spec.specs.Aggregate.{Summary}
 use Rattle.ts_spec.specs.Rules.{is_past}
-use Rattle.ts_spec.specs.Mending.{bucket_row, counted_anew, lies_in}
+use Rattle.ts_spec.specs.StoredUpdates.{bucket_row, recounted_bucket, lies_in}
 use Rattle.ts_spec.proofs.Buckets.{start-le, start-order, start-start}
 use Rattle.ts_spec.proofs.TwoRows.{two-rows}
 use Rattle.ts_series.specs.History.{History, list_of}
 use Rattle.ts_rules.specs.declared.rule.Rule.{Rule}
-use Rattle.ts_rules.specs.Rules.{kept_with_dest}
+use Rattle.ts_rules.specs.Rules.{stored_rule_for}
 use Rattle.ts_rules.specs.Deletions.{gone_of, left_of, rows_left}
 use Rattle.ts_rules.specs.Ends.{is_first_in}
 use Rattle.ts_rules.proofs.Meeting.{lies-past}
@@ -88,12 +88,12 @@ module _ (r : Rule) (source : History) (from to born : ℕ) (order : from ≤ to
   lost b = lies_in r.grid (gone_of source from to) b
 
   pub ends-are : (first last : ℕ) (gone one two : List Point) (early late : Summary) (x y : Bool) → first ≡ start r.grid from → last ≡ start r.grid to → gone ≡ gone_of source from to →
-      early ≡ counted_anew (kept_with_dest [] r) (start r.grid from) (left_of source from to) → late ≡ counted_anew (kept_with_dest [] r) (start r.grid to) (left_of source from to) →
+      early ≡ recounted_bucket (stored_rule_for [] r) (start r.grid from) (left_of source from to) → late ≡ recounted_bucket (stored_rule_for [] r) (start r.grid to) (left_of source from to) →
       x ≡ is_first_in r.grid first gone → y ≡ nat_lt 0 (length (between (max last from) to (list_of source))) →
       one ≡ (if x && is_past r.current first then bucket_row r.agg born first early else []) →
       two ≡ (if first == last then [] else (if y && is_past r.current last then bucket_row r.agg born last late else [])) → one ++ two ≡ rows_left r source from to born
   ends-are first last gone one two early late x y begins ends is_gone is_early is_late is_x is_y is_one is_two =
-      (λ i. first-row i ++ last-row i) ∙ sym (two-rows from to (list_of source) born (kept_with_dest [] r) order ascending)
+      (λ i. first-row i ++ last-row i) ∙ sym (two-rows from to (list_of source) born (stored_rule_for [] r) order ascending)
     where
       first-x : x ≡ lost (start r.grid from)
       first-x = is_x ∙ (λ i. is_first_in r.grid (begins i) (is_gone i)) ∙ lies-first r.grid from to (list_of source) ascending
@@ -101,14 +101,14 @@ module _ (r : Rule) (source : History) (from to born : ℕ) (order : from ≤ to
       last-y : y ≡ lost (start r.grid to)
       last-y = is_y ∙ ap (λ b. nat_lt 0 (length (between (max b from) to (list_of source)))) ends ∙ lies-last r.grid from to (list_of source) some
 
-      first-row : one ≡ (if is_past r.current (start r.grid from) && lost (start r.grid from) then bucket_row r.agg born (start r.grid from) (counted_anew (kept_with_dest [] r) (start r.grid from) (left_of source from to)) else [])
+      first-row : one ≡ (if is_past r.current (start r.grid from) && lost (start r.grid from) then bucket_row r.agg born (start r.grid from) (recounted_bucket (stored_rule_for [] r) (start r.grid from) (left_of source from to)) else [])
       first-row =
           is_one ∙ (λ i. if first-x i && is_past r.current (begins i) then bucket_row r.agg born (begins i) (is_early i) else [])
-          ∙ and-order (lost (start r.grid from)) (is_past r.current (start r.grid from)) (bucket_row r.agg born (start r.grid from) (counted_anew (kept_with_dest [] r) (start r.grid from) (left_of source from to))) []
+          ∙ and-order (lost (start r.grid from)) (is_past r.current (start r.grid from)) (bucket_row r.agg born (start r.grid from) (recounted_bucket (stored_rule_for [] r) (start r.grid from) (left_of source from to))) []
 
       last-row : two ≡ (if start r.grid from == start r.grid to then []
-          else (if is_past r.current (start r.grid to) && lost (start r.grid to) then bucket_row r.agg born (start r.grid to) (counted_anew (kept_with_dest [] r) (start r.grid to) (left_of source from to)) else []))
+          else (if is_past r.current (start r.grid to) && lost (start r.grid to) then bucket_row r.agg born (start r.grid to) (recounted_bucket (stored_rule_for [] r) (start r.grid to) (left_of source from to)) else []))
       last-row =
           is_two ∙ (λ i. if begins i == ends i then [] else (if last-y i && is_past r.current (ends i) then bucket_row r.agg born (ends i) (is_late i) else []))
           ∙ ap (λ (row : List Point). if start r.grid from == start r.grid to then [] else row)
-          (and-order (lost (start r.grid to)) (is_past r.current (start r.grid to)) (bucket_row r.agg born (start r.grid to) (counted_anew (kept_with_dest [] r) (start r.grid to) (left_of source from to))) [])
+          (and-order (lost (start r.grid to)) (is_past r.current (start r.grid to)) (bucket_row r.agg born (start r.grid to) (recounted_bucket (stored_rule_for [] r) (start r.grid to) (left_of source from to))) [])

@@ -1,4 +1,4 @@
-pub mod Room
+pub mod DeletionBuffers
 pub mod Rules
 pub mod Spans
 pub mod Writes
@@ -9,8 +9,8 @@ pub mod Ends
 pub mod PlansOfDeletions
 pub mod States
 pub mod Shares
-pub mod Lost
+pub mod LostBuckets
 pub mod FaultNames
-pub mod Walks
+pub mod IntervalReading
 pub mod CountedWith
 pub mod SharedBucket

@@ -1,8 +1,8 @@
 -- The result of a plan for a rule.
 use Rattle.std.specs.Prelude.{◌≡◌, ℕ, ◌<◌, ◌≤◌, ⊤, Bool, List, length, Option, None, Some, Result, Ok, Err}
 use Rattle.ts_spec.specs.Sample.{Point}
-use Rattle.ts_spec.specs.Kept.{KeptRule}
-use Rattle.ts_spec.specs.Mending.{mended, high_with}
+use Rattle.ts_spec.specs.StoredSeries.{StoredRule}
+use Rattle.ts_spec.specs.StoredUpdates.{updated_list, high_after_rows}
 use Rattle.ts_series.specs.History.{History, list_of}
 use Rattle.ts_series.specs.Plan.{Plan, after, IsFor}
 use Rattle.ts_rules.specs.declared.rule.Rule.{Rule}
@@ -22,28 +22,28 @@ IsForDest None h = ⊤
 IsForDest (Some plan) h = IsFor plan h
 
 -- the destination's samples after `rows` replace those whose times pass the test
-abbrev pub mended_list : (gone : ℕ → Bool) → (rows : List Point) → History → List Point
-mended_list gone rows h = mended h.options.retention h.high gone rows (list_of h)
+abbrev pub list_after_update : (gone : ℕ → Bool) → (rows : List Point) → History → List Point
+list_after_update gone rows h = updated_list h.options.retention h.high gone rows (list_of h)
 
 -- the plan updates the destination like this, within the limit
-pub record IsMendedBy (limit : ℕ) (gone : ℕ → Bool) (rows : List Point) (h : History) (plan : Option Plan) : Type 0 where
+pub record IsUpdatedBy (limit : ℕ) (gone : ℕ → Bool) (rows : List Point) (h : History) (plan : Option Plan) : Type 0 where
   pub made_for : IsForDest plan h
-  pub list : list_of (after_plan plan h) ≡ mended_list gone rows h
-  pub high : (after_plan plan h).high ≡ high_with rows h.high
+  pub list : list_of (after_plan plan h) ≡ list_after_update gone rows h
+  pub high : (after_plan plan h).high ≡ high_after_rows rows h.high
   pub options : (after_plan plan h).options ≡ h.options
-  pub fits : length (mended_list gone rows h) ≤ limit
+  pub fits : length (list_after_update gone rows h) ≤ limit
 
 -- `Full` means that the destination would exceed the limit, `Memory` that it would not
 abbrev pub IsUnplanned : (limit : ℕ) → (gone : ℕ → Bool) → (rows : List Point) → History → RuleFault → Type 0
-IsUnplanned limit gone rows h Full = limit < length (mended_list gone rows h)
-IsUnplanned limit gone rows h (Memory e) = length (mended_list gone rows h) ≤ limit
+IsUnplanned limit gone rows h Full = limit < length (list_after_update gone rows h)
+IsUnplanned limit gone rows h (Memory e) = length (list_after_update gone rows h) ≤ limit
 
 -- the result of planning an update of the destination
-abbrev pub IsMending : (limit : ℕ) → (gone : ℕ → Bool) → (rows : List Point) → History → Result (Option Plan) RuleFault → Type 0
-IsMending limit gone rows h (Ok plan) = IsMendedBy limit gone rows h plan
-IsMending limit gone rows h (Err fault) = IsUnplanned limit gone rows h fault
+abbrev pub IsUpdate : (limit : ℕ) → (gone : ℕ → Bool) → (rows : List Point) → History → Result (Option Plan) RuleFault → Type 0
+IsUpdate limit gone rows h (Ok plan) = IsUpdatedBy limit gone rows h plan
+IsUpdate limit gone rows h (Err fault) = IsUnplanned limit gone rows h fault
 
 -- the result of planning a change for a rule: the changed rule and the updated destination
-abbrev pub IsPlanned : (limit : ℕ) → (change : KeptRule → KeptRule) → (gone : ℕ → Bool) → (rows : List Point) → Rule → (dest : History) → Result RulePlan RuleFault → Type 0
-IsPlanned limit change gone rows r dest (Ok plan) = IsChanged change r plan.rule × IsMendedBy limit gone rows dest plan.dest
+abbrev pub IsPlanned : (limit : ℕ) → (change : StoredRule → StoredRule) → (gone : ℕ → Bool) → (rows : List Point) → Rule → (dest : History) → Result RulePlan RuleFault → Type 0
+IsPlanned limit change gone rows r dest (Ok plan) = IsChanged change r plan.rule × IsUpdatedBy limit gone rows dest plan.dest
 IsPlanned limit change gone rows r dest (Err fault) = IsUnplanned limit gone rows dest fault

@@ -5,7 +5,7 @@ use Rattle.ts_spec.specs.Aggregate.{Summary, summary}
 
 -- A bucket: its first and last time, the summary of its samples, and a rule count at or after which each of them was
 -- written.
-pub record TheSharedBucket : Type 0 where
+pub record SharedBucketState : Type 0 where
   pub first : ℕ
   pub last : ℕ
   pub running : Summary
@@ -16,5 +16,5 @@ abbrev pub counted_between : (made first last : ℕ) → List Point → Summary
 counted_between made first last ps = summary (filter (λ q. nat_le made q.made) (between first last ps))
 
 -- every rule created at or before rule count `least` counts this in the bucket, once the sample is written
-abbrev pub IsShared : List Point → Point → TheSharedBucket → Type 0
+abbrev pub IsShared : List Point → Point → SharedBucketState → Type 0
 IsShared ps p t = (made : ℕ) → made ≤ t.least → t.running ≡ counted_between made t.first t.last (put p ps)

@@ -2,16 +2,16 @@
 ghost use Rattle.std.specs.Prelude.{◌≡◌, ◌≤◌, ◌+◌, ◌*◌, [], length};
 ghost use Rattle.ts_spec.specs.Sample.{MAX_TIME, between, outside, put};
 ghost use Rattle.ts_spec.specs.Bucket.{start as start_of};
-ghost use Rattle.ts_spec.specs.Mending.{counted_anew};
+ghost use Rattle.ts_spec.specs.StoredUpdates.{recounted_bucket};
 ghost use Rattle.ts_sample.specs.Visit.{visited};
 ghost use Rattle.ts_sample.specs.Steps.{Takes};
 ghost use Rattle.ts_series.specs.History.{list_of, reach};
-ghost use Rattle.ts_rules.specs.Rules.{kept_with_dest};
+ghost use Rattle.ts_rules.specs.Rules.{stored_rule_for};
 ghost use Rattle.ts_rules.specs.Shares.{in_buckets, source_share};
 ghost use Rattle.ts_rules.specs.Spans.{from_until};
 ghost use Rattle.ts_rules.specs.SharedBucket.{IsShared};
 
-use crate::counted_with::CountedWith;
+use crate::count_with_write::CountedWith;
 use crate::rule::Rule;
 use crate::shared_bucket::SharedBucket;
 use std::sync::ledger::Ledger;
@@ -29,7 +29,8 @@ pub(crate) fn count_written<L: Ledger>(
     steps: &mut Steps<L>,
 ) -> Running
     requires shared { IsShared (list_of source.now) wrote.now shared.old }
-    ensures running { result ≡ counted_anew (kept_with_dest [] rule.now) (start_of rule.now.grid wrote.now.time) (put wrote.now (list_of source.now)) }
+    ensures running { result ≡ recounted_bucket (stored_rule_for [] rule.now) (start_of rule.now.grid wrote.now.time)
+        (put wrote.now (list_of source.now)) }
     ensures shared { IsShared (list_of source.now) wrote.now shared.new }
     ensures steps { Takes steps.old steps.new (source_share rule.now source.now wrote.now.time) }
 {
@@ -59,8 +60,10 @@ pub(crate) fn ends_left<L: Ledger>(
 ) -> (Running, Running)
     requires order { from ≤ to }
     requires time { to ≤ MAX_TIME }
-    ensures first { result.0 ≡ counted_anew (kept_with_dest [] rule.now) (start_of rule.now.grid from) (outside from to (list_of source.now)) }
-    ensures last { result.1 ≡ counted_anew (kept_with_dest [] rule.now) (start_of rule.now.grid to) (outside from to (list_of source.now)) }
+    ensures first { result.0 ≡ recounted_bucket (stored_rule_for [] rule.now) (start_of rule.now.grid from)
+        (outside from to (list_of source.now)) }
+    ensures last { result.1 ≡ recounted_bucket (stored_rule_for [] rule.now) (start_of rule.now.grid to)
+        (outside from to (list_of source.now)) }
     ensures counted { steps.old ≤ steps.new }
     ensures bounded { steps.new + length (between from to (list_of source.now))
         ≤ steps.old + length (in_buckets rule.now.grid from to (list_of source.now)) + 4 * reach source.now }
@@ -90,7 +93,8 @@ fn scan_until<V: Visit, L: Ledger>(
 )
     requires { length (from_until from end (list_of source.now)) ≤ V.room visit.old }
     ensures visited { visit.new ≡ visited V.step visit.old (from_until from end (list_of source.now)) }
-    ensures steps { Takes steps.old steps.new (length (from_until from end (list_of source.now)) + 2 * reach source.now) }
+    ensures steps { Takes steps.old steps.new
+        (length (from_until from end (list_of source.now)) + 2 * reach source.now) }
 {
     if from < end {
         source.scan(from, end - 1, visit, steps);

@@ -3,9 +3,9 @@ ghost use Rattle.std.specs.Prelude.{◌≡◌, ℕ, ◌≤◌, [], true};
 ghost use Rattle.std.specs.List.Sorted.{IsNonDecreasing};
 ghost use Rattle.ts_spec.specs.Sample.{MAX_TIME};
 ghost use Rattle.ts_spec.specs.Bucket.{start as start_of};
-ghost use Rattle.ts_spec.specs.Answer.{is_listed};
-ghost use Rattle.ts_spec.specs.Mending.{counted_anew, lies_in};
-ghost use Rattle.ts_rules.specs.Rules.{kept_with_dest, one_of, IsChanged};
+ghost use Rattle.ts_spec.specs.Answer.{contains_time};
+ghost use Rattle.ts_spec.specs.StoredUpdates.{recounted_bucket, lies_in};
+ghost use Rattle.ts_rules.specs.Rules.{stored_rule_for, one_of, IsChanged};
 ghost use Rattle.ts_rules.specs.Deletions.{gone_of, left_of, is_lost, row_left, rule_left};
 
 use crate::rule::{Rule, opened, row};
@@ -29,9 +29,9 @@ pub(crate) struct Deletion<'a> {
     pub ghost in_order: { from ≤ to },
     pub ghost in_time: { to ≤ MAX_TIME },
     pub ghost rising: { IsNonDecreasing lost.now },
-    pub ghost lies: { (b : ℕ) → is_listed lost.now b ≡ lies_in rule.now.grid (gone_of source.now from to) b },
-    pub ghost first_left: { first ≡ counted_anew (kept_with_dest [] rule.now) (start_of rule.now.grid from) (left_of source.now from to) },
-    pub ghost last_left: { last ≡ counted_anew (kept_with_dest [] rule.now) (start_of rule.now.grid to) (left_of source.now from to) },
+    pub ghost lies: { (b : ℕ) → contains_time lost.now b ≡ lies_in rule.now.grid (gone_of source.now from to) b },
+    pub ghost first_left: { first ≡ recounted_bucket (stored_rule_for [] rule.now) (start_of rule.now.grid from) (left_of source.now from to) },
+    pub ghost last_left: { last ≡ recounted_bucket (stored_rule_for [] rule.now) (start_of rule.now.grid to) (left_of source.now from to) },
 }
 
 impl Deletion<'_> {
@@ -51,7 +51,8 @@ impl Deletion<'_> {
     // What remains in a bucket that loses a sample.
     fn left_in(&self, start: u64) -> Running
         requires { lies_in self.now.rule.now.grid (gone_of self.now.source.now self.now.from self.now.to) start ≡ true }
-        ensures { result ≡ counted_anew (kept_with_dest [] self.now.rule.now) start (left_of self.now.source.now self.now.from self.now.to) }
+        ensures { result ≡ recounted_bucket (stored_rule_for [] self.now.rule.now) start
+            (left_of self.now.source.now self.now.from self.now.to) }
     {
         let grid = &self.rule.grid;
         if start == grid.start_of(self.from) {
@@ -67,7 +68,8 @@ impl Deletion<'_> {
     // is what remains in it, and `born` the destination's rule count.
     pub(crate) fn row_left(&self, start: u64, left: &Running, born: u32) -> Option<Sample>
         requires time { start ≤ MAX_TIME }
-        requires left { left.now ≡ counted_anew (kept_with_dest [] self.now.rule.now) start (left_of self.now.source.now self.now.from self.now.to) }
+        requires left { left.now ≡ recounted_bucket (stored_rule_for [] self.now.rule.now) start
+            (left_of self.now.source.now self.now.from self.now.to) }
         ensures { one_of result ≡ row_left self.now.rule.now self.now.source.now self.now.from self.now.to born start }
     {
         if !self.loses(start) {
@@ -85,7 +87,8 @@ impl Deletion<'_> {
 
     // Whether a bucket starts at `start` and loses a sample.
     fn touches(&self, start: u64) -> bool
-        ensures { result ≡ lies_in self.now.rule.now.grid (gone_of self.now.source.now self.now.from self.now.to) start }
+        ensures { result ≡ lies_in self.now.rule.now.grid (gone_of self.now.source.now self.now.from self.now.to)
+            start }
     {
         self.lost.binary_search(&start).is_ok()
     }

@@ -3,7 +3,7 @@ ghost use Rattle.std.specs.Prelude.{◌≡◌, ◌≤◌, ◌+◌, ◌*◌, ◌&
 ghost use Rattle.ts_spec.specs.Sample.{MAX_TIME, IsAscending, at_times, between};
 ghost use Rattle.ts_spec.specs.State.{edge_of};
 ghost use Rattle.ts_spec.specs.Rules.{is_past};
-ghost use Rattle.ts_spec.specs.Mending.{bucket_row, high_with};
+ghost use Rattle.ts_spec.specs.StoredUpdates.{bucket_row, high_after_rows};
 ghost use Rattle.ts_series.specs.History.{list_of, reach};
 ghost use Rattle.ts_rules.specs.Rules.{one_of};
 ghost use Rattle.ts_rules.specs.Deletions.{gone_of, rows_left};
@@ -61,7 +61,7 @@ impl Ends {
     // The destination's retention edge after the rows are written.
     pub(crate) fn edge(&self, dest: &Series) -> u64
         requires { IsAscending (rows_at self.now) }
-        ensures { result ≡ edge_of dest.now.options.retention (high_with (rows_at self.now) dest.now.high) }
+        ensures { result ≡ edge_of dest.now.options.retention (high_after_rows (rows_at self.now) dest.now.high) }
     {
         match (self.first, self.last) {
             (None, None) => dest.edge_with(&[]),
@@ -83,7 +83,8 @@ impl Ends {
 // The row of a bucket with `left` remaining, if it is closed and lost a sample.
 fn row_if(rule: &Rule, start: u64, lost: bool, left: &Running, born: u32) -> Option<Sample>
     requires { start ≤ MAX_TIME }
-    ensures { one_of result ≡ (if lost && is_past rule.now.current start then bucket_row rule.now.agg born start left.now else []) }
+    ensures { one_of result
+        ≡ (if lost && is_past rule.now.current start then bucket_row rule.now.agg born start left.now else []) }
 {
     if lost && rule.is_closed(start) {
         row(rule.agg, born, start, left)
@@ -102,7 +103,9 @@ fn last_row(
     born: u32,
 ) -> Option<Sample>
     requires { last ≤ MAX_TIME }
-    ensures { one_of result ≡ (if first == last then [] else (if lost && is_past rule.now.current last then bucket_row rule.now.agg born last left.now else [])) }
+    ensures { one_of result
+        ≡ (if first == last then []
+        else (if lost && is_past rule.now.current last then bucket_row rule.now.agg born last left.now else [])) }
 {
     if first == last {
         return None;

@@ -2,10 +2,10 @@
 ghost use Rattle.std.specs.Prelude.{◌≡◌, ◌<◌, ◌+◌, ◌^◌, ◌&&◌, ◌==◌, if◌then◌else◌, length, ◌≤◌, nat_lt};
 ghost use Rattle.ts_spec.specs.Sample.{IsAscending, at_times, MAX_TIME};
 ghost use Rattle.ts_spec.specs.Rules.{is_past};
-ghost use Rattle.ts_spec.specs.Mending.{lies_in};
+ghost use Rattle.ts_spec.specs.StoredUpdates.{lies_in};
 ghost use Rattle.ts_sample.specs.Steps.{Takes};
 ghost use Rattle.ts_series.specs.History.{list_of};
-ghost use Rattle.ts_rules.specs.Plans.{mended_list};
+ghost use Rattle.ts_rules.specs.Plans.{list_after_update};
 ghost use Rattle.ts_rules.specs.Deletions.{is_lost, rows_left};
 ghost use Rattle.ts_rules.specs.Shares.{deletion_share};
 
@@ -27,7 +27,8 @@ pub(crate) fn count_lost<L: Ledger>(
     requires gone { IsAscending gone }
     requires shown { IsAscending shown }
     requires few { length shown < 2 ^ 32 }
-    ensures count { result ≡ length (at_times (λ t. is_past rule.now.current t && lies_in rule.now.grid gone.entry t) shown.entry) }
+    ensures count { result ≡ length
+        (at_times (λ t. is_past rule.now.current t && lies_in rule.now.grid gone.entry t) shown.entry) }
     ensures steps { Takes steps.old steps.new (length gone.entry + length shown.entry) }
 {
     let mut count = 0;
@@ -67,7 +68,9 @@ pub(crate) fn is_full<L: Ledger>(
     requires order { from ≤ to }
     requires time { to ≤ MAX_TIME }
     requires fits { length (list_of dest.now) ≤ limit }
-    ensures full { result ≡ nat_lt limit (length (mended_list (is_lost rule.now source.now from to) (rows_left rule.now source.now from to dest.now.born) dest.now)) }
+    ensures full { result ≡ nat_lt limit
+        (length (list_after_update (is_lost rule.now source.now from to)
+        (rows_left rule.now source.now from to dest.now.born) dest.now)) }
     ensures steps { Takes steps.old steps.new (deletion_share rule.now source.now from to dest.now) }
 {
     source.known();

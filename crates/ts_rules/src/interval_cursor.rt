@@ -3,7 +3,7 @@ ghost use Rattle.std.specs.Prelude.{◌≡◌, ◌+◌, drop};
 ghost use Rattle.ts_spec.specs.Sample.{IsAscending, between, first_of};
 ghost use Rattle.ts_sample.specs.Steps.{Takes};
 ghost use Rattle.ts_series.specs.History.{list_of, reach};
-ghost use Rattle.ts_rules.specs.Walks.{first_upto};
+ghost use Rattle.ts_rules.specs.IntervalReading.{first_up_to};
 
 use std::marker::Model;
 use std::sync::ledger::Ledger;
@@ -22,11 +22,11 @@ pub(crate) struct IntervalCursor<'a> {
 impl<'a> Model for IntervalCursor<'a> {
     ghost use Rattle.std.specs.Prelude.{List};
     ghost use Rattle.ts_spec.specs.Sample.{Point, IsAscending};
-    ghost use Rattle.ts_rules.specs.Walks.{walk_left};
+    ghost use Rattle.ts_rules.specs.IntervalReading.{remaining_up_to};
 
     ghost Value = { List Point };
 
-    ghost view = { λ w. walk_left w.to w.head w.rest };
+    ghost view = { λ w. remaining_up_to w.to w.head w.rest };
 
     ghost invariant = { λ w. IsAscending w.rest };
 }
@@ -69,7 +69,7 @@ impl<'a> IntervalCursor<'a> {
 
 // The next sample, unless it is after `to`.
 fn next_upto<L: Ledger>(rest: &mut Cursor<'_>, to: u64, steps: &mut Steps<L>) -> Option<Sample>
-    ensures next { result ≡ first_upto to rest.old }
+    ensures next { result ≡ first_up_to to rest.old }
     ensures left { rest.new ≡ drop 1 rest.old }
     ensures steps { Takes steps.old steps.new 1 }
 {

@@ -3,24 +3,24 @@
 #![tactic(auto)]
 
 mod count;
-mod counted_with;
+mod count_with_write;
 mod deletion;
+mod deletion_buffers;
+mod dest_update;
 mod end_rows;
 mod fullness;
 mod interval_cursor;
 mod laws;
-mod lost;
-mod mending;
+mod lost_buckets;
 mod plan;
-mod planned;
-mod room;
 mod rule;
+mod rule_plans;
 mod shared_bucket;
 mod span;
 mod write;
 
-pub use laws::plans_are_what_is_kept;
+pub use laws::plans_match_stored_state;
 pub use plan::{RuleFault, RulePlan};
-pub use planned::{plan_delete, plan_put, plan_put_shared};
 pub use rule::{Rule, latest};
+pub use rule_plans::{plan_delete, plan_put, plan_put_shared};
 pub use shared_bucket::SharedBucket;

@@ -3,7 +3,7 @@ ghost use Rattle.std.specs.Prelude.{◌≡◌, ◌≤◌};
 ghost use Rattle.std.specs.Option.{ForSome};
 ghost use Rattle.ts_spec.specs.Sample.{MAX_TIME, first_of};
 ghost use Rattle.ts_spec.specs.Rules.{is_past};
-ghost use Rattle.ts_spec.specs.Mending.{bucket_row};
+ghost use Rattle.ts_spec.specs.StoredUpdates.{bucket_row};
 ghost use Rattle.ts_rules.specs.Rules.{IsOpenAt, open_row, one_of};
 
 use ts_agg::Running;

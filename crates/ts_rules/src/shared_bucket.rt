@@ -19,9 +19,9 @@ pub struct SharedBucket {
 }
 
 impl Model for SharedBucket {
-    ghost use Rattle.ts_rules.specs.SharedBucket.{TheSharedBucket};
+    ghost use Rattle.ts_rules.specs.SharedBucket.{SharedBucketState};
 
-    ghost Value = { TheSharedBucket };
+    ghost Value = { SharedBucketState };
 
     ghost view = { λ t. record { first = t.first; last = t.last; running = t.running; least = t.least } };
 

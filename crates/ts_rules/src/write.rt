@@ -4,10 +4,10 @@ ghost use Rattle.ts_spec.specs.Sample.{put};
 ghost use Rattle.ts_spec.specs.Bucket.{start as start_of};
 ghost use Rattle.ts_spec.specs.Aggregate.{nothing, push};
 ghost use Rattle.ts_spec.specs.Rules.{is_append};
-ghost use Rattle.ts_spec.specs.Mending.{counted_anew};
+ghost use Rattle.ts_spec.specs.StoredUpdates.{recounted_bucket};
 ghost use Rattle.ts_sample.specs.Steps.{Takes};
 ghost use Rattle.ts_series.specs.History.{list_of};
-ghost use Rattle.ts_rules.specs.Rules.{kept_with_dest, one_of, IsChanged, TakesAppended};
+ghost use Rattle.ts_rules.specs.Rules.{stored_rule_for, one_of, IsChanged, TakesAppended};
 ghost use Rattle.ts_rules.specs.Shares.{source_share, IsNotClosed};
 ghost use Rattle.ts_rules.specs.SharedBucket.{IsShared};
 ghost use Rattle.ts_rules.specs.Writes.{rule_after, row_for_dest};
@@ -36,7 +36,8 @@ pub(crate) fn written<L: Ledger>(
     ensures row { one_of result.1 ≡ row_for_dest source.now wrote.now born rule.now }
     ensures shared { IsShared (list_of source.now) wrote.now shared.new }
     ensures steps { Takes steps.old steps.new (source_share rule.now source.now wrote.now.time) }
-    ensures easy { is_append wrote.now.time source.now.high ≡ true → IsNotClosed rule.now wrote.now.time → steps.new ≡ steps.old }
+    ensures easy { is_append wrote.now.time source.now.high ≡ true → IsNotClosed rule.now wrote.now.time
+        → steps.new ≡ steps.old }
 {
     rule.grid.known();
     let start = rule.grid.start_of(wrote.time);
@@ -50,12 +51,12 @@ pub(crate) fn written<L: Ledger>(
     if open < start {
         return (opened(rule, Some(start), of_one(wrote)), latest(rule, born));
     }
-    let running = grown(rule, source, wrote, shared, steps);
+    let running = open_bucket_after(rule, source, wrote, shared, steps);
     (opened(rule, Some(open), running), None)
 }
 
 // The open bucket after a write to it. An appended sample is added; any other write recounts the bucket.
-fn grown<L: Ledger>(
+fn open_bucket_after<L: Ledger>(
     rule: &Rule,
     source: &Series,
     wrote: &Sample,
@@ -65,7 +66,8 @@ fn grown<L: Ledger>(
     requires shared { IsShared (list_of source.now) wrote.now shared.old }
     requires room { is_append wrote.now.time source.now.high ≡ true → rule.now.running.count < 10 ^ 14 }
     ensures running { result ≡ (if is_append wrote.now.time source.now.high then push rule.now.running wrote.now
-        else counted_anew (kept_with_dest [] rule.now) (start_of rule.now.grid wrote.now.time) (put wrote.now (list_of source.now))) }
+        else recounted_bucket (stored_rule_for [] rule.now) (start_of rule.now.grid wrote.now.time)
+        (put wrote.now (list_of source.now))) }
     ensures shared { IsShared (list_of source.now) wrote.now shared.new }
     ensures steps { Takes steps.old steps.new (source_share rule.now source.now wrote.now.time) }
     ensures easy { is_append wrote.now.time source.now.high ≡ true → steps.new ≡ steps.old }

@@ -6,7 +6,7 @@ use Rattle.std.proofs.lemmas.List.{length-take, length-drop, map-append, take-ap
 use Rattle.std.proofs.lemmas.Bool.{leb-false}
 use Rattle.ts_spec.specs.Sample.{Point, IsAscending, last_of}
 use Rattle.ts_sample.specs.Chunk.{IsLimit, IsPast, Fits, IsCut, HaveLimit, least_limit, nothing, whole, halves}
-use Rattle.ts_sample.specs.Sample.{IsFine}
+use Rattle.ts_sample.specs.Sample.{IsInBounds}
 use Rattle.ts_sample.proofs.Lists.{past-later}
 use Rattle.ts_sample.proofs.Parted.{after_each}
 
@@ -41,11 +41,11 @@ module _ (format : List Point → List ℕ) (grows : (ps : List Point) (p : Poin
       omega arith
 
 -- a list that doesn't fit has two samples or more
-pub two : (format : List Point → List ℕ) → ((p : Point) → IsFine p → length (format (p ∷ [])) ≤ least_limit) → (limit : ℕ) → IsLimit limit → (ps : List Point) (first : Point)
-    → IsFine first → 0 < length ps → first ≡ get_or ps 0 first → limit < length (format ps) → 2 ≤ length ps
+pub two : (format : List Point → List ℕ) → ((p : Point) → IsInBounds p → length (format (p ∷ [])) ≤ least_limit) → (limit : ℕ) → IsLimit limit → (ps : List Point) (first : Point)
+    → IsInBounds first → 0 < length ps → first ≡ get_or ps 0 first → limit < length (format ps) → 2 ≤ length ps
 two format one_fits limit bounds [] first fine some is more = absurd (omega arith)
 two format one_fits limit bounds (p ∷ []) first fine some is more =
-    let here : length (format (p ∷ [])) ≤ least_limit = one_fits p (subst IsFine is fine) in
+    let here : length (format (p ∷ [])) ≤ least_limit = one_fits p (subst IsInBounds is fine) in
     absurd (omega (arith, bounds.least))
 two format one_fits limit bounds (p ∷ q ∷ ps) first fine some is more = omega arith
 

@@ -8,10 +8,10 @@ use Rattle.std.proofs.lemmas.List.{get_or_default}
 use Rattle.std.proofs.lemmas.List.Sorted.{searched}
 use Rattle.std.proofs.lemmas.List.Folds.{list_any_at, list_any_none}
 use Rattle.std.proofs.lemmas.Bool.{cases_lt}
-use Rattle.ts_spec.specs.Answer.{is_listed}
+use Rattle.ts_spec.specs.Answer.{contains_time}
 
 -- the same by any test
-pub listed-any : (us : List ℕ) (t : ℕ) → is_listed us t ≡ list_any (λ u. eqb u t) us
+pub listed-any : (us : List ℕ) (t : ℕ) → contains_time us t ≡ list_any (λ u. eqb u t) us
 listed-any [] t = refl
 listed-any (u ∷ us) t = ap (λ b. eqb u t || b) (listed-any us t)
 
@@ -30,13 +30,13 @@ other us t i below above k d within =
     ]
 
 -- a number between two neighbours is not in the list
-pub unlisted : (us : List ℕ) (t i : ℕ) → ((k : ℕ) → k < i → get_or us k 0 < t) → ((k : ℕ) → i ≤ k → k < length us → t < get_or us k 0) → is_listed us t ≡ false
+pub unlisted : (us : List ℕ) (t i : ℕ) → ((k : ℕ) → k < i → get_or us k 0 < t) → ((k : ℕ) → i ≤ k → k < length us → t < get_or us k 0) → contains_time us t ≡ false
 unlisted us t i below above = listed-any us t ∙ list_any_none (λ u. eqb u t) us (other us t i below above)
 
-told : (us : List ℕ) (t : ℕ) (r : Result ℕ ℕ) → Found us t r → is_ok r ≡ is_listed us t
+told : (us : List ℕ) (t : ℕ) (r : Result ℕ ℕ) → Found us t r → is_ok r ≡ contains_time us t
 told us t (Ok i) found = sym (listed-any us t ∙ list_any_at (λ u. eqb u t) us i 0 found.0 (eq-eqb (get_or us i 0) t found.1))
 told us t (Err i) found = sym (unlisted us t i found.1 found.2)
 
 -- a binary search decides it
-pub listed-by-search : (us : List ℕ) (t : ℕ) (r : Result ℕ ℕ) → IsNonDecreasing us → IsBinarySearchResult (λ u. nat_cmp u t) us r → is_ok r ≡ is_listed us t
+pub listed-by-search : (us : List ℕ) (t : ℕ) (r : Result ℕ ℕ) → IsNonDecreasing us → IsBinarySearchResult (λ u. nat_cmp u t) us r → is_ok r ≡ contains_time us t
 listed-by-search us t r rising found = told us t r (searched us t r found (λ i j le within. rising i j 0 le within))

@@ -2,8 +2,8 @@
 use Rattle.std.proofs.Common.{◌≡◌, ℕ, zero, suc, ◌<◌, Bool, true, false, cond, List, [], ◌∷◌, ◌++◌, take, drop, refl, ap, arith}
 use Rattle.std.specs.Prelude.{nat_lt, Option, None, Some}
 use Rattle.ts_spec.specs.Sample.{Point, IsAfter, IsAscending, at_times, last_of, later_or, put}
-use Rattle.ts_sample.specs.Chunk.{AreFine, IsPast}
-use Rattle.ts_sample.specs.Sample.{IsFine}
+use Rattle.ts_sample.specs.Chunk.{AreInBounds, IsPast}
+use Rattle.ts_sample.specs.Sample.{IsInBounds}
 
 -- ---- parts of an ascending list
 
@@ -46,27 +46,27 @@ after-append t (p ∷ ps) qs h k = (h.0, after-append t ps qs h.1 k)
 
 -- ---- samples within their bounds
 
-pub fine-left : (ps qs : List Point) → AreFine (ps ++ qs) → AreFine ps
+pub fine-left : (ps qs : List Point) → AreInBounds (ps ++ qs) → AreInBounds ps
 fine-left [] qs h = tt
 fine-left (p ∷ ps) qs h = (h.0, fine-left ps qs h.1)
 
-pub fine-right : (ps qs : List Point) → AreFine (ps ++ qs) → AreFine qs
+pub fine-right : (ps qs : List Point) → AreInBounds (ps ++ qs) → AreInBounds qs
 fine-right [] qs h = h
 fine-right (p ∷ ps) qs h = fine-right ps qs h.1
 
-pub fine-append : (ps qs : List Point) → AreFine ps → AreFine qs → AreFine (ps ++ qs)
+pub fine-append : (ps qs : List Point) → AreInBounds ps → AreInBounds qs → AreInBounds (ps ++ qs)
 fine-append [] qs h k = k
 fine-append (p ∷ ps) qs h k = (h.0, fine-append ps qs h.1 k)
 
-pub fine-times : (test : ℕ → Bool) (ps : List Point) → AreFine ps → AreFine (at_times test ps)
+pub fine-times : (test : ℕ → Bool) (ps : List Point) → AreInBounds ps → AreInBounds (at_times test ps)
 fine-times test [] h = tt
 fine-times test (p ∷ ps) h = go (test p.time) (fine-times test ps h.1)
   where
-    go : (b : Bool) → AreFine (at_times test ps) → AreFine (cond b (p ∷ at_times test ps) (at_times test ps))
+    go : (b : Bool) → AreInBounds (at_times test ps) → AreInBounds (cond b (p ∷ at_times test ps) (at_times test ps))
     go true ih = (h.0, ih)
     go false ih = ih
 
-pub fine-put : (p : Point) (ps : List Point) → IsFine p → AreFine ps → AreFine (put p ps)
+pub fine-put : (p : Point) (ps : List Point) → IsInBounds p → AreInBounds ps → AreInBounds (put p ps)
 fine-put p ps fine h =
     fine-append (at_times (λ t. nat_lt t p.time) ps) (p ∷ at_times (nat_lt p.time) ps) (fine-times (λ t. nat_lt t p.time) ps h) (fine, fine-times (nat_lt p.time) ps h)
 

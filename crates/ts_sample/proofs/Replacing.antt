@@ -5,11 +5,11 @@ use Rattle.std.proofs.lemmas.Bool.Decides.{nat_tests}
 use Rattle.std.proofs.lemmas.Option.{slice_get_within, get_or_from_slice_get}
 use Rattle.ts_spec.specs.Sample.{Point, MAX_TIME, IsAfter, IsAscending, at, at_times, is_within, between, put}
 use Rattle.ts_spec.proofs.Samples.{at-time}
-use Rattle.ts_sample.specs.Chunk.{AreFine}
+use Rattle.ts_sample.specs.Chunk.{AreInBounds}
 use Rattle.ts_sample.proofs.Parted.{after_each}
 
 -- each sample is up to MAX_TIME
-pub between-all : (ps : List Point) → AreFine ps → between 0 MAX_TIME ps ≡ ps
+pub between-all : (ps : List Point) → AreInBounds ps → between 0 MAX_TIME ps ≡ ps
 between-all [] h = refl
 between-all (p ∷ ps) h =
     let time : p.time ≤ MAX_TIME = h.0.time in

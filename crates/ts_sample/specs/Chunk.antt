@@ -1,12 +1,12 @@
 -- Chunks: lists of samples encoded in a bounded number of bytes.
 use Rattle.std.specs.Prelude.{◌≡◌, ◌≢◌, ℕ, ◌/◌, ◌≤◌, ◌<◌, ⊤, List, [], ◌∷◌, ◌++◌, take, drop, length, Option, None, Some}
 use Rattle.ts_spec.specs.Sample.{Point, IsAscending}
-use Rattle.ts_sample.specs.Sample.{IsFine}
+use Rattle.ts_sample.specs.Sample.{IsInBounds}
 
 -- every sample is within its bounds
-abbrev pub AreFine : List Point → Type 0
-AreFine [] = ⊤
-AreFine (p ∷ ps) = IsFine p × AreFine ps
+abbrev pub AreInBounds : List Point → Type 0
+AreInBounds [] = ⊤
+AreInBounds (p ∷ ps) = IsInBounds p × AreInBounds ps
 
 -- the least and the greatest limit of a chunk, in bytes
 abbrev pub least_limit : ℕ
@@ -28,7 +28,7 @@ Fits format limit ps = length (format ps) ≤ limit
 pub record IsChunk (format : List Point → List ℕ) (limit : ℕ) (ps : List Point) : Type 0 where
   pub bounds : IsLimit limit
   pub ascending : IsAscending ps
-  pub fine : AreFine ps
+  pub fine : AreInBounds ps
   pub fits : Fits format limit ps
 
 -- the time is after the last sample

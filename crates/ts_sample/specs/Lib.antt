@@ -1,5 +1,5 @@
 pub mod Chunk
-pub mod Gathered
+pub mod SampleCollector
 pub mod Sample
 pub mod Steps
 pub mod Visit

@@ -6,10 +6,10 @@ ghost use Rattle.ts_sample.specs.Chunk.{IsCut, HaveLimit, IsLimit};
 ghost use Rattle.ts_sample.specs.Steps.{Takes};
 
 use crate::chunk::Chunk;
-use crate::place::{find, places_between};
 use crate::sample::{MAX_TIME, Sample};
 use crate::steps::Steps;
-use crate::visit::Gathered;
+use crate::time_search::{find, index_range};
+use crate::visit::SampleCollector;
 use std::alloc::{AllocError, Global};
 use std::sync::ledger::Ledger;
 
@@ -34,7 +34,7 @@ pub(crate) fn with_sample<C: Chunk, L: Ledger>(
         return both(alloc, first, second);
     }
     let mut samples = decoded(chunk, alloc, steps)?;
-    put_at_its_time(&mut samples, sample)?;
+    insert_or_replace(&mut samples, sample)?;
     cut_into(alloc, chunk.limit(), &samples)
 }
 
@@ -53,7 +53,7 @@ pub(crate) fn without_interval<C: Chunk, L: Ledger>(
 {
     chunk.known();
     let mut samples = decoded(chunk, alloc, steps)?;
-    take_out(&mut samples, from, to);
+    drop_interval(&mut samples, from, to);
     cut_into(alloc, chunk.limit(), &samples)
 }
 
@@ -95,13 +95,13 @@ fn decoded<C: Chunk, L: Ledger>(
     ensures steps { Takes steps.old steps.new (length (C.list chunk.now)) }
 {
     chunk.known();
-    let mut gathered = Gathered::with_room(alloc, chunk.len() + 1)?;
+    let mut gathered = SampleCollector::with_reserved(alloc, chunk.len() + 1)?;
     chunk.scan(0, MAX_TIME, &mut gathered, steps);
     Ok(gathered.into_samples())
 }
 
 // Inserts a sample into an ascending list, or replaces the one at its time.
-fn put_at_its_time(samples: &mut Vec<Sample>, sample: &Sample) -> Result<(), AllocError>
+fn insert_or_replace(samples: &mut Vec<Sample>, sample: &Sample) -> Result<(), AllocError>
     requires { IsAscending samples.old.items }
     ensures { IfOk result (λ _. samples.new.items ≡ put sample.now samples.old.items) }
 {
@@ -113,11 +113,11 @@ fn put_at_its_time(samples: &mut Vec<Sample>, sample: &Sample) -> Result<(), All
 }
 
 // Removes the samples from `from` to `to`, both included, from an ascending list.
-fn take_out(samples: &mut Vec<Sample>, from: u64, to: u64)
+fn drop_interval(samples: &mut Vec<Sample>, from: u64, to: u64)
     requires { IsAscending samples.old.items }
     ensures { samples.new.items ≡ outside from to samples.old.items }
 {
-    let places = places_between(samples, from, to);
+    let places = index_range(samples, from, to);
     samples.drain(places);
 }
 

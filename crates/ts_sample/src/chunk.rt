@@ -3,7 +3,7 @@ ghost use Rattle.std.specs.Prelude.{◌≡◌, ℕ, ◌+◌, ◌*◌, ◌/◌, �
 ghost use Rattle.std.specs.Prelude.{drop, length, map, IfOk, IfSome, IfNone};
 ghost use Rattle.ts_spec.specs.Sample.{Point, between, at_times, outside, put, first_of, last_of};
 ghost use Rattle.ts_sample.specs.Chunk.{IsLimit, IsChunk, IsPast, IsCut, HaveLimit, least_limit};
-ghost use Rattle.ts_sample.specs.Sample.{IsFine};
+ghost use Rattle.ts_sample.specs.Sample.{IsInBounds};
 ghost use Rattle.ts_sample.specs.Visit.{visited};
 ghost use Rattle.ts_sample.specs.Steps.{Takes};
 
@@ -183,5 +183,5 @@ pub trait Chunk: Drop {
     ghost grows: { (ps : List Point) (p : Point) → length (format ps) ≤ length (format (ps ++ p ∷ [])) };
 
     // One sample fits into the smallest chunk.
-    ghost one_fits: { (p : Point) → IsFine p → length (format (p ∷ [])) ≤ least_limit };
+    ghost one_fits: { (p : Point) → IsInBounds p → length (format (p ∷ [])) ≤ least_limit };
 }

@@ -4,14 +4,14 @@
 
 mod changed;
 mod chunk;
-mod place;
 mod sample;
 mod steps;
+mod time_search;
 mod visit;
 
 pub use chunk::Chunk;
-pub use place::{find, place_of, place_past, places_between};
 pub use sample::{Cell, Id, MAX_TIME, Sample};
 pub use steps::Steps;
+pub use time_search::{find, index_range, lower_bound, upper_bound};
 pub use ts_spec::Units;
-pub use visit::{Gathered, Visit};
+pub use visit::{SampleCollector, Visit};

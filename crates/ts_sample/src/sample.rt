@@ -30,11 +30,11 @@ impl Model for Sample {
 }
 
 impl Sample {
-    ghost use Rattle.ts_sample.specs.Sample.{IsFine};
+    ghost use Rattle.ts_sample.specs.Sample.{IsInBounds};
 
     /// Does nothing at run time. It gives the prover the bounds of a sample behind a reference.
     pub fn known(&self)
-        ensures { IsFine self.now }
+        ensures { IsInBounds self.now }
     {
         let _made = self.made;
         let _value = self.value.get();

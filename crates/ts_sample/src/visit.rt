@@ -1,7 +1,7 @@
 // Visitors of samples, and one that collects them.
 ghost use Rattle.std.specs.Prelude.{◌≡◌, ℕ, ◌+◌, ◌≤◌, [], IfOk};
 ghost use Rattle.ts_spec.specs.Sample.{Point};
-ghost use Rattle.ts_sample.specs.Gathered.{with_one_more};
+ghost use Rattle.ts_sample.specs.SampleCollector.{with_one_more};
 
 use crate::sample::Sample;
 use std::alloc::{AllocError, Global};
@@ -26,26 +26,26 @@ pub trait Visit {
 
 /// A visitor that collects the samples that it receives, in their order.
 #[derive(Drop)]
-pub struct Gathered {
+pub struct SampleCollector {
     samples: Vec<Sample>,
 }
 
-impl Model for Gathered {
+impl Model for SampleCollector {
     ghost use Rattle.std.specs.Prelude.{◌-◌, vec_len, vec_capacity};
-    ghost use Rattle.ts_sample.specs.Gathered.{Gathering};
+    ghost use Rattle.ts_sample.specs.SampleCollector.{CollectedSamples};
 
-    ghost Value = { Gathering };
+    ghost Value = { CollectedSamples };
 
     ghost view = { λ g. record { list = g.samples.items; room = vec_capacity g.samples - vec_len g.samples } };
 }
 
-impl Gathered {
+impl SampleCollector {
     /// An empty collector with capacity for `count` samples.
-    pub fn with_room(alloc: Global, count: usize) -> Result<Gathered, AllocError>
+    pub fn with_reserved(alloc: Global, count: usize) -> Result<SampleCollector, AllocError>
         ensures empty { IfOk result (λ g. g.list ≡ []) }
         ensures room { IfOk result (λ g. count ≤ g.room) }
     {
-        Ok(Gathered {
+        Ok(SampleCollector {
             samples: Vec::with_capacity(alloc, count)?,
         })
     }
@@ -58,7 +58,7 @@ impl Gathered {
     }
 }
 
-impl Visit for Gathered {
+impl Visit for SampleCollector {
     ghost use Rattle.std.proofs.Common.{arith};
 
     ghost step = { with_one_more };

@@ -8,7 +8,7 @@ use Rattle.ts_spec.specs.Sample.{Point, IsAscending, at, at_times, first_of, las
 use Rattle.ts_spec.proofs.Samples.{at-times, at-append, at-after}
 use Rattle.ts_sample.specs.Chunk.{IsChunk, joined}
 use Rattle.ts_sample.proofs.Replacing.{none-before}
-use Rattle.ts_series.specs.Stored.{Stored, AreChunks, AreKept, IsTrimmed}
+use Rattle.ts_series.specs.Stored.{Stored, AreChunks, AreStoredChunks, IsTrimmed}
 use Rattle.ts_series.proofs.Counting.{times-append}
 use Rattle.ts_series.proofs.Joined.{chunk-at, chunks-take, map-at, joined-at}
 use Rattle.ts_series.proofs.Meeting.{last-joined, trimmed-at}
@@ -48,7 +48,7 @@ pub record IsPiece (format : List Point → List ℕ) (h : Stored) (i : ℕ) (ps
   pub chunk : IsChunk format (get_or h.limits i 0) ps
 
 pub piece : {X : Type 0} (format : List Point → List ℕ) (list : X → List Point) (most : X → ℕ) (cs : List X) (room count : ℕ) (h : Stored)
-    → ◌≡◌ {A = Stored} (record { pieces = map list cs; limits = map most cs; room = room }) h → AreKept format (map list cs) (map most cs) count
+    → ◌≡◌ {A = Stored} (record { pieces = map list cs; limits = map most cs; room = room }) h → AreStoredChunks format (map list cs) (map most cs) count
     → (i : ℕ) (x : X) → i < length cs → x ≡ get_or cs i x → IsPiece format h i (list x)
 piece format list most cs room count h view kept i x less there =
     subst (λ (k : Stored). IsPiece format k i (list x)) view

@@ -5,7 +5,7 @@ use Rattle.std.proofs.lemmas.Bool.Decides.{nat_tests}
 use Rattle.ts_spec.specs.Sample.{Point, IsAscending, last_of}
 use Rattle.ts_sample.specs.Chunk.{IsChunk, IsPast, Fits, joined}
 use Rattle.ts_sample.proofs.Lists.{ascending-left}
-use Rattle.ts_series.specs.Stored.{AreChunks, AreKept, HasRoomFor, with_last}
+use Rattle.ts_series.specs.Stored.{AreChunks, AreStoredChunks, LastChunkFits, with_last}
 
 -- the last of these lists has a sample more
 pub map-last : {X : Type 0} (list : X → List Point) (p : Point) (i : ℕ) (xs : List X) (x d : X) → length xs ≡ suc i → list x ≡ list (get_or xs i d) ++ p ∷ []
@@ -30,7 +30,7 @@ chunks-set format list most (suc i) (y ∷ xs) x h is filled = (h.0, (h.1.0, chu
 
 -- the room of the last chunk
 pub room-last : {X : Type 0} (format : List Point → List ℕ) (list : X → List Point) (most : X → ℕ) (p : Point) (i : ℕ) (xs : List X) (d : X) → length xs ≡ suc i
-    → HasRoomFor format (Some p) (map list xs) (map most xs) → IsPast (last_of (list (get_or xs i d))) p.time × Fits format (most (get_or xs i d)) (list (get_or xs i d) ++ p ∷ [])
+    → LastChunkFits format (Some p) (map list xs) (map most xs) → IsPast (last_of (list (get_or xs i d))) p.time × Fits format (most (get_or xs i d)) (list (get_or xs i d) ++ p ∷ [])
 room-last format list most p i [] d long h = absurd h
 room-last format list most p zero (y ∷ []) d long h = h
 room-last format list most p (suc i) (y ∷ []) d long h = absurd (omega arith)
@@ -42,7 +42,7 @@ joined-more : (p : Point) (ps : List Point) (pss : List (List Point)) → joined
 joined-more p ps [] = append-nil (ps ++ p ∷ []) ∙ ap (λ (l : List Point). l ++ p ∷ []) (sym (append-nil ps))
 joined-more p ps (qs ∷ pss) = ap (λ (l : List Point). ps ++ l) (joined-more p qs pss) ∙ sym (append_assoc ps (joined (qs ∷ pss)) (p ∷ []))
 
-pub joined-last : (format : List Point → List ℕ) (p : Point) (pss : List (List Point)) (ns : List ℕ) → HasRoomFor format (Some p) pss ns → joined (with_last (Some p) pss) ≡ joined pss ++ p ∷ []
+pub joined-last : (format : List Point → List ℕ) (p : Point) (pss : List (List Point)) (ns : List ℕ) → LastChunkFits format (Some p) pss ns → joined (with_last (Some p) pss) ≡ joined pss ++ p ∷ []
 joined-last format p [] ns h = absurd h
 joined-last format p (ps ∷ pss) ns h = joined-more p ps pss
 
@@ -66,9 +66,9 @@ filled-last (r ∷ ps) p qs is = λ e. absurd (cc (sym e ∙ is))
 
 -- what is kept once the last chunk took the sample
 pub kept-last : {X : Type 0} (format : List Point → List ℕ) (list : X → List Point) (most : X → ℕ) (p : Point) (i : ℕ) (xs : List X) (x d : X) (count : ℕ) → length xs ≡ suc i
-    → list x ≡ list (get_or xs i d) ++ p ∷ [] → IsChunk format (most x) (list x) → HasRoomFor format (Some p) (map list xs) (map most xs)
-    → IsAscending (joined (with_last (Some p) (map list xs))) → AreKept format (map list xs) (map most xs) count
-    → AreKept format (map list (slice_set xs i x)) (map most (slice_set xs i x)) (count + 1)
+    → list x ≡ list (get_or xs i d) ++ p ∷ [] → IsChunk format (most x) (list x) → LastChunkFits format (Some p) (map list xs) (map most xs)
+    → IsAscending (joined (with_last (Some p) (map list xs))) → AreStoredChunks format (map list xs) (map most xs) count
+    → AreStoredChunks format (map list (slice_set xs i x)) (map most (slice_set xs i x)) (count + 1)
 kept-last format list most p i xs x d count long is chunk room up kept =
     let pieces : map list (slice_set xs i x) ≡ with_last (Some p) (map list xs) = map-last list p i xs x d long is in
     record {

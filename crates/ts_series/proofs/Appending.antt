@@ -7,7 +7,7 @@ use Rattle.ts_spec.specs.Sample.{Point, IsAscending, at, put, last_of}
 use Rattle.ts_spec.specs.Rules.{Merged}
 use Rattle.ts_spec.proofs.Samples.{ascending-put}
 use Rattle.ts_sample.specs.Chunk.{IsPast, joined}
-use Rattle.ts_series.specs.Stored.{points, with_last, HasRoomFor, IsReady}
+use Rattle.ts_series.specs.Stored.{points, with_last, LastChunkFits, IsReady}
 use Rattle.ts_series.specs.History.{History, list_of, low, IsKeptIn}
 use Rattle.ts_series.specs.Plan.{IsForIn, appends}
 use Rattle.ts_series.specs.Put.{met, PutAnswers, list_after}
@@ -18,11 +18,11 @@ use Rattle.ts_series.proofs.Ready.{Shows, is-for, written-list}
 
 module _ {format : List Point → List ℕ} (h : History) (p : Point) (shows : Shows h) (kept : IsKeptIn format h) (made : p.made ≡ h.born) (past : IsPast (last_of (points h.held)) p.time) where
   -- the samples of the chunks then
-  joined-put : HasRoomFor format (Some p) h.held.pieces h.held.limits → joined (with_last (Some p) h.held.pieces) ≡ put p (points h.held)
+  joined-put : LastChunkFits format (Some p) h.held.pieces h.held.limits → joined (with_last (Some p) h.held.pieces) ≡ put p (points h.held)
   joined-put room = joined-last format p h.held.pieces h.held.limits room ∙ sym (put-past p (points h.held) kept.chunks.ascending past)
 
   -- the plan is for the series
-  pub appends-for : HasRoomFor format (Some p) h.held.pieces h.held.limits → IsForIn format (appends h.options.encoding p) h
+  pub appends-for : LastChunkFits format (Some p) h.held.pieces h.held.limits → IsForIn format (appends h.options.encoding p) h
   appends-for room =
       let plan = appends h.options.encoding p in
       let list = joined-put room in

@@ -3,9 +3,9 @@ use Rattle.std.proofs.Common.{◌≡◌, ℕ, ◌+◌, ◌-◌, ◌^◌, ◌≤�
 use Rattle.std.specs.Prelude.{slice_range}
 use Rattle.std.proofs.lemmas.List.{map-append, take-map, drop-map, take_at, drop_at}
 use Rattle.ts_spec.specs.Sample.{Point, IsAfter, IsAscending, MAX_TIME}
-use Rattle.ts_sample.specs.Chunk.{AreFine, joined}
+use Rattle.ts_sample.specs.Chunk.{AreInBounds, joined}
 use Rattle.ts_sample.proofs.Lists.{ascending-left, ascending-right}
-use Rattle.ts_series.specs.Stored.{AreChunks, AreKept, replaced}
+use Rattle.ts_series.specs.Stored.{AreChunks, AreStoredChunks, replaced}
 use Rattle.ts_series.proofs.Joined.{chunks-take, chunks-drop, chunks-append}
 use Rattle.ts_series.proofs.PieceCounts.{three-parts, joined-replaced}
 use Rattle.ts_series.proofs.NewChunks.{fine-joined}
@@ -13,15 +13,15 @@ use Rattle.ts_series.proofs.NewChunks.{fine-joined}
 -- ---- how many samples there can be
 
 -- samples past a time are no more than there are times past it
-spread : (t : ℕ) (ps : List Point) → AreFine ps → IsAfter t ps → IsAscending ps → t ≤ MAX_TIME → t + length ps ≤ MAX_TIME
+spread : (t : ℕ) (ps : List Point) → AreInBounds ps → IsAfter t ps → IsAscending ps → t ≤ MAX_TIME → t + length ps ≤ MAX_TIME
 spread t [] fine after up within = omega arith
 spread t (p ∷ ps) fine after up within = omega (arith, after.0, spread p.time ps fine.1 up.0 up.1 fine.0.time)
 
-few : (ps : List Point) → AreFine ps → IsAscending ps → length ps ≤ 2 ^ 63
+few : (ps : List Point) → AreInBounds ps → IsAscending ps → length ps ≤ 2 ^ 63
 few [] fine up = omega arith
 few (p ∷ ps) fine up = omega (arith, spread p.time ps fine.1 up.0 up.1 fine.0.time)
 
-pub few-kept : (format : List Point → List ℕ) (pss : List (List Point)) (ns : List ℕ) (count : ℕ) → AreKept format pss ns count → count ≤ 2 ^ 63
+pub few-kept : (format : List Point → List ℕ) (pss : List (List Point)) (ns : List ℕ) (count : ℕ) → AreStoredChunks format pss ns count → count ≤ 2 ^ 63
 few-kept format pss ns count kept = omega (arith, kept.counted, few (joined pss) (fine-joined format pss ns kept.chunks) kept.ascending)
 
 -- ---- new chunks in the place of others
@@ -54,8 +54,8 @@ chunks-replaced format start end new old ms ns h k =
 -- what is kept once chunks are in the place of others
 pub kept-replaced : {X : Type 0} (format : List Point → List ℕ) (list : X → List Point) (most : X → ℕ) (start end : ℕ) (new old items : List X) (count before : ℕ)
     → items ≡ replaced start end new old → count ≡ length (joined (map list items))
-    → AreChunks format (map list new) (map most new) → IsAscending (joined (replaced start end (map list new) (map list old))) → AreKept format (map list old) (map most old) before
-    → AreKept format (map list items) (map most items) count
+    → AreChunks format (map list new) (map most new) → IsAscending (joined (replaced start end (map list new) (map list old))) → AreStoredChunks format (map list old) (map most old) before
+    → AreStoredChunks format (map list items) (map most items) count
 kept-replaced format list most start end new old items count before is counted chunks up kept =
     let pieces : map list items ≡ replaced start end (map list new) (map list old) = ap (map list) is ∙ map-replaced list start end new old in
     let limits : map most items ≡ replaced start end (map most new) (map most old) = ap (map most) is ∙ map-replaced most start end new old in

@@ -3,7 +3,7 @@ use Rattle.std.proofs.Common.{List}
 use Rattle.std.specs.Prelude.{Option, None, Some, not}
 use Rattle.ts_spec.specs.Sample.{Point, IsAscending, is_within}
 use Rattle.ts_spec.proofs.Sound.{IsPart, part-times}
-use Rattle.ts_series.specs.declared.line_plan.Interval.{Interval}
+use Rattle.ts_series.specs.declared.chunked_series_plan.Interval.{Interval}
 use Rattle.ts_series.specs.Plan.{without_cut}
 
 -- what is left was there

@@ -6,7 +6,7 @@ use Rattle.std.proofs.lemmas.Bool.Decides.{nat_tests}
 use Rattle.ts_spec.specs.Sample.{Point, IsAscending, is_within, at, at_times, put_all}
 use Rattle.ts_spec.proofs.Samples.{at-times, at-put_all, ascending-times, ascending-put_all, ascending-same}
 use Rattle.ts_spec.proofs.Sound.{IsPart}
-use Rattle.ts_series.specs.declared.line_plan.Interval.{Interval}
+use Rattle.ts_series.specs.declared.chunked_series_plan.Interval.{Interval}
 use Rattle.ts_series.specs.Plan.{without_cut}
 use Rattle.ts_series.proofs.Cutting.{part-cut}
 

@@ -5,7 +5,7 @@ use Rattle.std.proofs.lemmas.Bool.Decides.{nat_tests}
 use Rattle.ts_spec.specs.Sample.{Point, IsAfter, IsAscending, at_times, last_of}
 use Rattle.ts_sample.specs.Chunk.{joined}
 use Rattle.ts_sample.proofs.Lists.{ascending-right}
-use Rattle.ts_series.specs.Stored.{AreKept, IsTrimmed}
+use Rattle.ts_series.specs.Stored.{AreStoredChunks, IsTrimmed}
 use Rattle.ts_series.proofs.Counting.{times-append}
 
 after-last : (t : ℕ) (ps : List Point) (q : Point) → IsAfter t ps → last_of ps ≡ Some q → t < q.time
@@ -65,7 +65,7 @@ kept-past list edge x xs gone =
 
 -- what is kept without the first chunk
 pub kept-rest : {X : Type 0} (format : List Point → List ℕ) (list : X → List Point) (most : X → ℕ) (x : X) (xs : List X) (count : ℕ)
-    → AreKept format (map list (x ∷ xs)) (map most (x ∷ xs)) count → AreKept format (map list xs) (map most xs) (count - length (list x))
+    → AreStoredChunks format (map list (x ∷ xs)) (map most (x ∷ xs)) count → AreStoredChunks format (map list xs) (map most xs) (count - length (list x))
 kept-rest format list most x xs count kept = record {
   chunks = kept.chunks.1.1;
   ascending = ascending-right (list x) (joined (map list xs)) kept.ascending;

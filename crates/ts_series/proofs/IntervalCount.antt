@@ -3,7 +3,7 @@ use Rattle.std.proofs.Common.{◌≡◌, ◌⊎◌, inl, inr, ℕ, ◌+◌, ◌-
 use Rattle.std.specs.Prelude.{nat_lt, min}
 use Rattle.std.proofs.lemmas.Bool.Decides.{nat_tests}
 use Rattle.ts_spec.specs.Sample.{Point, is_within, at_times, between}
-use Rattle.ts_sample.specs.Chunk.{AreFine}
+use Rattle.ts_sample.specs.Chunk.{AreInBounds}
 use Rattle.ts_series.proofs.Counting.{one_if, length-cons_if}
 
 module _ (from to past : ℕ) (is : past ≡ min (to + 1) 18446744073709551615) where
@@ -11,7 +11,7 @@ module _ (from to past : ℕ) (is : past ≡ min (to + 1) 18446744073709551615) 
   both : (t : ℕ) → t ≤ 9223372036854775807 → from ≤ to → one_if (is_within from to t) + one_if (nat_lt t from) ≡ one_if (nat_lt t past)
   both t fine le = grind (arith, nat_tests, is)
 
-  both-count : (ps : List Point) → AreFine ps → from ≤ to → length (between from to ps) + length (at_times (λ t. nat_lt t from) ps) ≡ length (at_times (λ t. nat_lt t past) ps)
+  both-count : (ps : List Point) → AreInBounds ps → from ≤ to → length (between from to ps) + length (at_times (λ t. nat_lt t from) ps) ≡ length (at_times (λ t. nat_lt t past) ps)
   both-count [] fine le = omega arith
   both-count (p ∷ ps) fine le =
       omega (
@@ -45,7 +45,7 @@ module _ (from to past : ℕ) (is : past ≡ min (to + 1) 18446744073709551615) 
         length-cons_if (nat_lt p.time past) p (at_times (λ t. nat_lt t past) ps),
       )
 
-  pub between-count : (ps : List Point) → AreFine ps → (upto before : ℕ) → upto ≡ length (at_times (λ t. nat_lt t past) ps) → before ≡ length (at_times (λ t. nat_lt t from) ps)
+  pub between-count : (ps : List Point) → AreInBounds ps → (upto before : ℕ) → upto ≡ length (at_times (λ t. nat_lt t past) ps) → before ≡ length (at_times (λ t. nat_lt t from) ps)
       → upto - before ≡ length (between from to ps)
   between-count ps fine upto before upto_is before_is = go (cases from to)
     where

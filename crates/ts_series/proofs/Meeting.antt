@@ -8,7 +8,7 @@ use Rattle.ts_spec.specs.Sample.{Point, IsAfter, IsAscending, at_times, is_withi
 use Rattle.ts_spec.proofs.Samples.{IsBefore}
 use Rattle.ts_sample.specs.Chunk.{joined}
 use Rattle.ts_sample.proofs.Lists.{after-left, after-right, ascending-right}
-use Rattle.ts_series.specs.Stored.{AreChunks, IsMeeting, AllMeet, IsTrimmed, HaveBegun}
+use Rattle.ts_series.specs.Stored.{AreChunks, IsOverlapping, AllOverlap, IsTrimmed, HaveBegun}
 use Rattle.ts_series.proofs.EarlyLate.{is_before, is_upto, none-cons, none-head, none-left, none-right, none-both, last-before, before-last, before-first, before-none, some-before, late-some, first-some, first-none, before-some, after-some}
 use Rattle.ts_series.proofs.Joined.{chunk-at, filled-at, map-at}
 
@@ -174,7 +174,7 @@ less-dropped test (suc i) (suc j) (ps ∷ pss) le n = less-dropped test i j pss 
 
 pub meets : (from to : ℕ) (pss : List (List Point)) (start upto end : ℕ) → IsAscending (joined pss) → end ≡ max upto start → start ≤ length pss → upto ≤ length pss
     → at_times (nat_le from) (joined (take start pss)) ≡ [] → IsTrimmed from (drop start pss)
-    → at_times (λ t. nat_le t to) (joined (drop upto pss)) ≡ [] → HaveBegun to (take upto pss) → IsMeeting from to pss start end
+    → at_times (λ t. nat_le t to) (joined (drop upto pss)) ≡ [] → HaveBegun to (take upto pss) → IsOverlapping from to pss start end
 meets from to pss start upto end rises is low high early reach late begin = record {
   ordered = omega arith;
   within = omega arith;
@@ -195,7 +195,7 @@ filled-after t (p ∷ ps) f h n =
 
 -- each piece between two places meets the interval
 pub all-meet : (from to : ℕ) (pss : List (List Point)) (start upto end : ℕ) → IsAscending (joined pss) → end ≡ max upto start → upto ≤ length pss
-    → IsTrimmed from (drop start pss) → HaveBegun to (take upto pss) → AllMeet from to pss start end
+    → IsTrimmed from (drop start pss) → HaveBegun to (take upto pss) → AllOverlap from to pss start end
 all-meet from to pss start upto end rises is high reach begin k le less = (go (cases start k le), begun)
   where
     begun : at_times (λ t. nat_le t to) (get_or pss k []) ≢ []

@@ -4,16 +4,16 @@ use Rattle.std.specs.Prelude.{nat_lt, nat_le, min, Option, None, Some}
 use Rattle.std.proofs.lemmas.Bool.Decides.{nat_tests}
 use Rattle.ts_spec.specs.Sample.{Point, IsAscending, is_within, at_times, between, outside, put_all}
 use Rattle.ts_spec.specs.State.{edge_of}
-use Rattle.ts_spec.specs.Mending.{high_with}
+use Rattle.ts_spec.specs.StoredUpdates.{high_after_rows}
 use Rattle.ts_sample.specs.Chunk.{joined}
 use Rattle.ts_sample.proofs.Between.{filter-filter}
 use Rattle.ts_spec.specs.declared.series.Encoding.{Encoding}
 use Rattle.ts_series.specs.Stored.{Change, points, pieces_after, IsReady, HasLimits}
 use Rattle.ts_series.specs.History.{History, low, limit_for, IsKeptIn}
-use Rattle.ts_series.specs.Plan.{Plan, AreWithin, AreMade, places_for, IsForIn}
-use Rattle.ts_series.specs.Mend.{mended_list}
+use Rattle.ts_series.specs.Plan.{Plan, AreWithin, AreMade, chunk_capacity, IsForIn}
+use Rattle.ts_series.specs.Mend.{list_after_update}
 use Rattle.ts_series.proofs.Counting.{one_if, length-cons_if, times-length}
-use Rattle.ts_series.proofs.Mending.{count-mended}
+use Rattle.ts_series.proofs.Mending.{count-updated_list}
 use Rattle.ts_series.proofs.Edges.{from-edge}
 use Rattle.ts_series.proofs.Ready.{Shows, edge-with, is-for, written-list}
 
@@ -70,35 +70,35 @@ module _ (edge from to : ℕ) where
 
 module _ (from to : ℕ) (rows : List Point) (h : History) (shown : Shows h) (ascending : IsAscending (points h.held)) (rises : IsAscending rows) (within : AreWithin from to rows) where
   abbrev pub edge : ℕ
-  edge = edge_of h.options.retention (high_with rows h.high)
+  edge = edge_of h.options.retention (high_after_rows rows h.high)
 
-  pub mended-all : mended_list from to rows h ≡ at_times (nat_le edge) (put_all rows (outside from to (points h.held)))
-  mended-all =
+  pub updated_list-all : list_after_update from to rows h ≡ at_times (nat_le edge) (put_all rows (outside from to (points h.held)))
+  updated_list-all =
       ap (λ (l : List Point). at_times (nat_le edge) (put_all rows (outside from to l))) shown
       ∙ sym (from-edge (low h) edge rows (Some (record { from = from; to = to })) (points h.held) (edge-with h.options.retention rows h.high) ascending)
 
   -- it has the rows from the edge on, and what is left from there on
-  pub mended-count : length (mended_list from to rows h) ≡ length (at_times (nat_le edge) rows) + length (at_times (nat_le edge) (outside from to (points h.held)))
-  mended-count = ap length mended-all ∙ count-mended (nat_le edge) from to rows (points h.held) rises within
+  pub updated_list-count : length (list_after_update from to rows h) ≡ length (at_times (nat_le edge) rows) + length (at_times (nat_le edge) (outside from to (points h.held)))
+  updated_list-count = ap length updated_list-all ∙ count-updated_list (nat_le edge) from to rows (points h.held) rises within
 
-  pub mended-most : length (mended_list from to rows h) ≤ length rows + length (points h.held)
-  mended-most =
+  pub updated_list-most : length (list_after_update from to rows h) ≤ length rows + length (points h.held)
+  updated_list-most =
       omega (
         arith,
-        mended-count,
+        updated_list-count,
         times-length (nat_le edge) rows,
         times-length (nat_le edge) (outside from to (points h.held)),
         times-length (λ t. not (is_within from to t)) (points h.held),
       )
 
   -- whether it is longer than a limit
-  pub mended-exceeds : (limit low kept place : ℕ) → low ≡ edge → drop place rows ≡ at_times (nat_le low) rows → kept ≡ length (at_times (nat_le low) (outside from to (points h.held))) → limit < 2 ^ 32
-      → nat_lt limit (min (kept + (length rows - place)) (2 ^ 64 - 1)) ≡ nat_lt limit (length (mended_list from to rows h))
-  mended-exceeds limit low kept place is after left small =
-      let count : kept + (length rows - place) ≡ length (mended_list from to rows h) =
+  pub updated_list-exceeds : (limit low kept place : ℕ) → low ≡ edge → drop place rows ≡ at_times (nat_le low) rows → kept ≡ length (at_times (nat_le low) (outside from to (points h.held))) → limit < 2 ^ 32
+      → nat_lt limit (min (kept + (length rows - place)) (2 ^ 64 - 1)) ≡ nat_lt limit (length (list_after_update from to rows h))
+  updated_list-exceeds limit low kept place is after left small =
+      let count : kept + (length rows - place) ≡ length (list_after_update from to rows h) =
       omega (
         arith,
-        mended-count,
+        updated_list-count,
         left,
         ap length after,
         length-drop place rows,
@@ -118,7 +118,7 @@ mends encoding from to rows change room = record { cut = Some (record { from = f
 
 -- it is for the series, of which `h` is the view
 pub mends-for : {format : List Point → List ℕ} (from to : ℕ) (rows wrote : List Point) (change : Change) (room : Option ℕ) (h k : History) → h ≡ k → Shows h → IsKeptIn format h → AreMade k.born rows → wrote ≡ rows
-    → IsReady format h.held change → length h.held.pieces + length change.pieces ≤ places_for room h.held → HasLimits (limit_for h.options.chunk_size) h.held.limits change
+    → IsReady format h.held change → length h.held.pieces + length change.pieces ≤ chunk_capacity room h.held → HasLimits (limit_for h.options.chunk_size) h.held.limits change
     → joined (pieces_after change h.held.pieces) ≡ put_all rows (outside from to (points h.held)) → IsForIn format (mends h.options.encoding from to wrote change room) k
 mends-for {format} from to rows wrote change room h k view shown kept made same ready enough limits list =
     let encoding = h.options.encoding in

@@ -9,7 +9,7 @@ use Rattle.ts_spec.proofs.Samples.{IsBefore, ascending-times, ascending-put_all}
 use Rattle.ts_sample.specs.Chunk.{IsPast, joined}
 use Rattle.ts_sample.proofs.Between.{filter-filter}
 use Rattle.ts_sample.proofs.Lists.{past-before, ascending-left, ascending-right}
-use Rattle.ts_series.specs.Stored.{IsMeeting, replaced}
+use Rattle.ts_series.specs.Stored.{IsOverlapping, replaced}
 use Rattle.ts_series.specs.Plan.{AreWithin}
 use Rattle.ts_series.proofs.Joined.{joined-parts}
 use Rattle.ts_series.proofs.EarlyLate.{after-less, none-right}
@@ -81,8 +81,8 @@ behind end next pss le =
     (drop-drop (next - end) end pss ∙ ap (λ n. drop n pss) (let all : end + (next - end) ≡ next = omega arith in all))
 
 -- where no chunk meets an interval, the next one may be taken in
-pub meeting-wider : (from to start end : ℕ) (pss : List (List Point)) → IsMeeting from to pss start end → start ≡ end → (next : ℕ) → next ≡ min (end + 1) (length pss) → IsMeeting from to pss start next
-meeting-wider from to start end pss meets none next is =
+pub overlapping-wider : (from to start end : ℕ) (pss : List (List Point)) → IsOverlapping from to pss start end → start ≡ end → (next : ℕ) → next ≡ min (end + 1) (length pss) → IsOverlapping from to pss start next
+overlapping-wider from to start end pss meets none next is =
     let within : end ≤ length pss = meets.within in
     let le : end ≤ next = omega arith in
     let few : next ≤ start + 1 = omega arith in
@@ -94,7 +94,7 @@ meeting-wider from to start end pss meets none next is =
       inner = λ k low high. absurd (omega (arith, few, low, high));
     }
 
-module _ (from to start end : ℕ) (pss : List (List Point)) (meets : IsMeeting from to pss start end) where
+module _ (from to start end : ℕ) (pss : List (List Point)) (meets : IsOverlapping from to pss start end) where
   -- the samples that are left of the chunks which the interval meets
   abbrev pub left : List Point
   left = outside from to (joined (slice_range pss start end))

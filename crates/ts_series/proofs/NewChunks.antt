@@ -4,7 +4,7 @@ use Rattle.std.specs.Prelude.{max, slice_range}
 use Rattle.std.specs.List.{All}
 use Rattle.std.proofs.lemmas.List.Elements.{All-head, All-tail}
 use Rattle.ts_spec.specs.Sample.{Point, IsAscending, outside}
-use Rattle.ts_sample.specs.Chunk.{IsLimit, IsChunk, IsCut, Fits, HaveLimit, AreFine, joined}
+use Rattle.ts_sample.specs.Chunk.{IsLimit, IsChunk, IsCut, Fits, HaveLimit, AreInBounds, joined}
 use Rattle.ts_sample.proofs.Cuts.{joined-cut, cut-some, cut-fits}
 use Rattle.ts_sample.proofs.Lists.{ascending-left, ascending-right, fine-left, fine-right, fine-append}
 use Rattle.ts_series.specs.Stored.{AreChunks, IsAmong, AreAmong, longest}
@@ -30,7 +30,7 @@ longest-both pss qss n h k = omega (arith, longest-append pss qss)
 -- ---- samples within their bounds
 
 -- the samples of all chunks are
-pub fine-joined : (format : List Point → List ℕ) (pss : List (List Point)) (ns : List ℕ) → AreChunks format pss ns → AreFine (joined pss)
+pub fine-joined : (format : List Point → List ℕ) (pss : List (List Point)) (ns : List ℕ) → AreChunks format pss ns → AreInBounds (joined pss)
 fine-joined format [] ns h = tt
 fine-joined format (ps ∷ pss) [] h = absurd h
 fine-joined format (ps ∷ pss) (n ∷ ns) h = fine-append ps (joined pss) h.0.fine (fine-joined format pss ns h.1.1)
@@ -38,7 +38,7 @@ fine-joined format (ps ∷ pss) (n ∷ ns) h = fine-append ps (joined pss) h.0.f
 -- ---- new chunks
 
 module _ {X : Type 0} (format : List Point → List ℕ) (list : X → List Point) (most : X → ℕ) (n : ℕ) (bounds : IsLimit n) where
-  chunks-of : (cs : List X) → HaveLimit most n cs → IsAscending (joined (map list cs)) → AreFine (joined (map list cs)) → All (λ ps. ps ≢ []) (map list cs) → All (Fits format n) (map list cs)
+  chunks-of : (cs : List X) → HaveLimit most n cs → IsAscending (joined (map list cs)) → AreInBounds (joined (map list cs)) → All (λ ps. ps ≢ []) (map list cs) → All (Fits format n) (map list cs)
       → AreChunks format (map list cs) (map most cs)
   chunks-of [] same rises fine some fit = tt
   chunks-of (c ∷ cs) same rises fine some fit = (
@@ -55,10 +55,10 @@ module _ {X : Type 0} (format : List Point → List ℕ) (list : X → List Poin
     ),
   )
 
-  pub cut-chunks : (ps : List Point) (cs : List X) → IsCut format n ps (map list cs) → HaveLimit most n cs → IsAscending ps → AreFine ps → AreChunks format (map list cs) (map most cs)
+  pub cut-chunks : (ps : List Point) (cs : List X) → IsCut format n ps (map list cs) → HaveLimit most n cs → IsAscending ps → AreInBounds ps → AreChunks format (map list cs) (map most cs)
   cut-chunks ps cs cut same rises fine =
       let is : joined (map list cs) ≡ ps = joined-cut format n ps (map list cs) cut in
-      chunks-of cs same (subst IsAscending (sym is) rises) (subst AreFine (sym is) fine) (cut-some format n ps (map list cs) cut) (cut-fits format n ps (map list cs) cut)
+      chunks-of cs same (subst IsAscending (sym is) rises) (subst AreInBounds (sym is) fine) (cut-some format n ps (map list cs) cut) (cut-fits format n ps (map list cs) cut)
 
 pub among-one : (one : ℕ) (ms : List ℕ) → IsAmong one ms one
 among-one one [] = refl

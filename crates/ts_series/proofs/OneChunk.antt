@@ -5,24 +5,24 @@ use Rattle.std.specs.Option.{option_or}
 use Rattle.std.proofs.lemmas.Bool.Decides.{nat_tests}
 use Rattle.ts_spec.specs.Sample.{Point, IsAfter, IsAscending, at, at_times, is_within, between, first_of, last_of, later_or}
 use Rattle.ts_spec.proofs.Samples.{at-after}
-use Rattle.ts_sample.specs.Chunk.{IsChunk, AreFine}
+use Rattle.ts_sample.specs.Chunk.{IsChunk, AreInBounds}
 use Rattle.ts_sample.specs.Visit.{visited}
 use Rattle.ts_sample.proofs.Parted.{filter_alike}
 use Rattle.ts_sample.proofs.Replacing.{none-before}
-use Rattle.ts_series.specs.declared.chunk_questions.Ends.{Ends}
+use Rattle.ts_series.specs.declared.chunk_queries.ScanEnds.{ScanEnds}
 use Rattle.ts_series.proofs.Counting.{times-length}
 use Rattle.ts_series.proofs.EarlyLate.{after-less}
 
 -- ---- the ends of the samples that a visitor takes
 
-abbrev after : Ends → Point → Ends
+abbrev after : ScanEnds → Point → ScanEnds
 after e p = record { first = option_or e.first (Some p); last = Some p; count = e.count + 1 }
 
 pub or-none : (o : Option Point) → option_or o None ≡ o
 or-none None = refl
 or-none (Some p) = refl
 
-last-visited : (e : Ends) (ps : List Point) → (visited after e ps).last ≡ option_or (last_of ps) e.last
+last-visited : (e : ScanEnds) (ps : List Point) → (visited after e ps).last ≡ option_or (last_of ps) e.last
 last-visited e [] = refl
 last-visited e (p ∷ ps) = last-visited (after e p) ps ∙ go (last_of ps)
   where
@@ -30,7 +30,7 @@ last-visited e (p ∷ ps) = last-visited (after e p) ps ∙ go (last_of ps)
     go None = refl
     go (Some q) = refl
 
-first-visited : (e : Ends) (ps : List Point) → (visited after e ps).first ≡ option_or e.first (first_of ps)
+first-visited : (e : ScanEnds) (ps : List Point) → (visited after e ps).first ≡ option_or e.first (first_of ps)
 first-visited e [] = sym (or-none e.first)
 first-visited e (p ∷ ps) = first-visited (after e p) ps ∙ go e.first
   where
@@ -38,18 +38,18 @@ first-visited e (p ∷ ps) = first-visited (after e p) ps ∙ go e.first
     go None = refl
     go (Some q) = refl
 
-count-visited : (e : Ends) (ps : List Point) → (visited after e ps).count ≡ e.count + length ps
+count-visited : (e : ScanEnds) (ps : List Point) → (visited after e ps).count ≡ e.count + length ps
 count-visited e [] = omega arith
 count-visited e (p ∷ ps) = let rest = count-visited (after e p) ps in omega (arith, rest)
 
 -- from no samples
-pub ends-last : (e : Ends) (ps : List Point) → e.last ≡ None → (visited after e ps).last ≡ last_of ps
+pub ends-last : (e : ScanEnds) (ps : List Point) → e.last ≡ None → (visited after e ps).last ≡ last_of ps
 ends-last e ps none = last-visited e ps ∙ ap (option_or (last_of ps)) none ∙ or-none (last_of ps)
 
-pub ends-first : (e : Ends) (ps : List Point) → e.first ≡ None → (visited after e ps).first ≡ first_of ps
+pub ends-first : (e : ScanEnds) (ps : List Point) → e.first ≡ None → (visited after e ps).first ≡ first_of ps
 ends-first e ps none = first-visited e ps ∙ ap (λ (o : Option Point). option_or o (first_of ps)) none
 
-pub ends-count : (e : Ends) (ps : List Point) → e.count ≡ 0 → (visited after e ps).count ≡ length ps
+pub ends-count : (e : ScanEnds) (ps : List Point) → e.count ≡ 0 → (visited after e ps).count ≡ length ps
 ends-count e ps none = let all = count-visited e ps in omega (arith, all)
 
 -- ---- one chunk
@@ -96,7 +96,7 @@ all-late t (q ∷ ps) p h is le =
     ap (λ b. cond b (q ∷ at_times (nat_le t) ps) (at_times (nat_le t) ps)) (le-leb t q.time low) ∙ ap (λ (l : List Point). q ∷ l) (all-from t q.time ps low h.0)
 
 -- the samples from a time on are those up to the greatest number
-pub late-is : (t : ℕ) (ps : List Point) → AreFine ps → between t 18446744073709551615 ps ≡ at_times (nat_le t) ps
+pub late-is : (t : ℕ) (ps : List Point) → AreInBounds ps → between t 18446744073709551615 ps ≡ at_times (nat_le t) ps
 late-is t [] h = refl
 late-is t (p ∷ ps) h =
     let high : p.time ≤ 9223372036854775807 = h.0.time in

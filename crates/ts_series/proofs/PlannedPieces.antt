@@ -6,10 +6,10 @@ use Rattle.std.proofs.lemmas.List.{map-append, length-take, get_or-take}
 use Rattle.ts_spec.specs.Sample.{Point, IsAfter, IsAscending, at_times, is_within, outside, put, last_of}
 use Rattle.ts_spec.proofs.Samples.{IsBefore, ascending-put, ascending-times}
 use Rattle.ts_sample.specs.Chunk.{IsChunk, IsPast, IsCut, Fits, HaveLimit, joined}
-use Rattle.ts_sample.specs.Sample.{IsFine}
+use Rattle.ts_sample.specs.Sample.{IsInBounds}
 use Rattle.ts_sample.proofs.Cuts.{joined-cut, joined-append}
 use Rattle.ts_sample.proofs.Lists.{ascending-left, fine-times, fine-put}
-use Rattle.ts_series.specs.Stored.{Stored, AreChunks, AreKept, IsTrimmed, IsReady, HasRoomFor, IsAmong, AreAmong, IsUpTo, longest, with_last, replaced, points}
+use Rattle.ts_series.specs.Stored.{Stored, AreChunks, AreStoredChunks, IsTrimmed, IsReady, LastChunkFits, IsAmong, AreAmong, IsUpTo, longest, with_last, replaced, points}
 use Rattle.ts_series.proofs.Joined.{joined-parts, chunk-at, chunks-length, chunks-take, chunks-append, longest-at}
 use Rattle.ts_series.proofs.Meeting.{last-joined}
 use Rattle.ts_series.proofs.PieceCounts.{mapped-at, joined-replaced}
@@ -22,12 +22,12 @@ pub ready-none : (format : List Point → List ℕ) (h : Stored) (start end : �
 ready-none format h start end pieces limits ordered within rises = record { ordered = ordered; within = within; ascending = rises; appends = tt; enough = omega arith }
 
 -- what holds of the chunks, of their value
-pub kept-view : (format : List Point → List ℕ) (k h : Stored) (count : ℕ) → k ≡ h → AreKept format k.pieces k.limits count → AreKept format h.pieces h.limits count
-kept-view format k h count is kept = subst (λ (x : Stored). AreKept format x.pieces x.limits count) is kept
+pub kept-view : (format : List Point → List ℕ) (k h : Stored) (count : ℕ) → k ≡ h → AreStoredChunks format k.pieces k.limits count → AreStoredChunks format h.pieces h.limits count
+kept-view format k h count is kept = subst (λ (x : Stored). AreStoredChunks format x.pieces x.limits count) is kept
 
 -- the last piece has room for a sample
 pub last-room : (format : List Point → List ℕ) (p : Point) (i : ℕ) (pss : List (List Point)) (ns : List ℕ) → suc i ≡ length pss → length pss ≡ length ns → IsPast (last_of (get_or pss i [])) p.time
-    → Fits format (get_or ns i 0) (get_or pss i [] ++ p ∷ []) → HasRoomFor format (Some p) pss ns
+    → Fits format (get_or ns i 0) (get_or pss i [] ++ p ∷ []) → LastChunkFits format (Some p) pss ns
 last-room format p i [] ns is same past fits = absurd (omega arith)
 last-room format p i (ps ∷ pss) [] is same past fits = absurd (omega arith)
 last-room format p zero (ps ∷ []) (n ∷ ns) is same past fits = (past, fits)
@@ -47,7 +47,7 @@ front-only {X} start end xs is =
 
 -- a sample past those of the chunks before a place
 module _ {X : Type 0} {format : List Point → List ℕ} (list : X → List Point) (most : X → ℕ) (cs : List X) {room count : ℕ} (h : Stored)
-    (view : ◌≡◌ {A = Stored} (record { pieces = map list cs; limits = map most cs; room = room }) h) (are : AreKept format (map list cs) (map most cs) count) {start end : ℕ} (p : Point)
+    (view : ◌≡◌ {A = Stored} (record { pieces = map list cs; limits = map most cs; room = room }) h) (are : AreStoredChunks format (map list cs) (map most cs) count) {start end : ℕ} (p : Point)
     (within : start ≤ length h.pieces) (size : end ≡ length h.pieces) (past : IsPast (last_of (joined (take start h.pieces))) p.time) where
   same : map list cs ≡ h.pieces
   same = ap (λ (k : Stored). k.pieces) view
@@ -55,7 +55,7 @@ module _ {X : Type 0} {format : List Point → List ℕ} (list : X → List Poin
   limits : map most cs ≡ h.limits
   limits = ap (λ (k : Stored). k.limits) view
 
-  kept : AreKept format h.pieces h.limits count
+  kept : AreStoredChunks format h.pieces h.limits count
   kept = kept-view format _ h count view are
 
   as-many : length h.pieces ≡ length h.limits
@@ -75,7 +75,7 @@ module _ {X : Type 0} {format : List Point → List ℕ} (list : X → List Poin
         past
 
     module _ {none : List X} (empty : none ≡ []) (fits : nat_le (length (format (list x ++ p ∷ []))) (most x) ≡ true) where
-      has-room : HasRoomFor format (Some p) (take start h.pieces) (take start h.limits)
+      has-room : LastChunkFits format (Some p) (take start h.pieces) (take start h.limits)
       has-room =
           let i : ℕ = start - 1 in
           let piece : list x ≡ get_or (take start h.pieces) i [] = mapped-at list i cs h.pieces x [] same (omega arith) is ∙ sym (get_or-take start h.pieces i [] (omega arith)) in
@@ -98,9 +98,9 @@ module _ {X : Type 0} {format : List Point → List ℕ} (list : X → List Poin
         ordered = omega arith;
         within = omega arith;
         ascending = subst IsAscending (sym into-list) (ascending-put p (joined (take start h.pieces)) rises);
-        appends = subst (λ (l : List X). HasRoomFor format (Some p) (replaced start end (map list l) h.pieces) (replaced start end (map most l) h.limits)) (sym empty)
-            (subst (λ (l : List (List Point)). HasRoomFor format (Some p) l (replaced start end [] h.limits)) (sym (front-only start end h.pieces size))
-            (subst (λ (l : List ℕ). HasRoomFor format (Some p) (take start h.pieces) l) (sym (front-only start end h.limits (omega (arith, as-many)))) has-room));
+        appends = subst (λ (l : List X). LastChunkFits format (Some p) (replaced start end (map list l) h.pieces) (replaced start end (map most l) h.limits)) (sym empty)
+            (subst (λ (l : List (List Point)). LastChunkFits format (Some p) l (replaced start end [] h.limits)) (sym (front-only start end h.pieces size))
+            (subst (λ (l : List ℕ). LastChunkFits format (Some p) (take start h.pieces) l) (sym (front-only start end h.limits (omega (arith, as-many)))) has-room));
         enough = omega arith;
       }
 
@@ -133,10 +133,10 @@ pub record IsOne {X : Type 0} (format : List Point → List ℕ) (list : X → L
   pub among : (one start end : ℕ) → start ≤ i → i < end → IsAmong one (slice_range h.limits start end) (most x)
 
 pub one-at : {X : Type 0} {format : List Point → List ℕ} (list : X → List Point) (most : X → ℕ) (cs : List X) {room count : ℕ} (h : Stored)
-    → ◌≡◌ {A = Stored} (record { pieces = map list cs; limits = map most cs; room = room }) h → AreKept format (map list cs) (map most cs) count
+    → ◌≡◌ {A = Stored} (record { pieces = map list cs; limits = map most cs; room = room }) h → AreStoredChunks format (map list cs) (map most cs) count
     → (i : ℕ) (x : X) → i < length h.pieces → x ≡ get_or cs i x → IsOne format list most h i x
 one-at {format = format} list most cs {count = count} h view are i x within is =
-    let kept : AreKept format h.pieces h.limits count = kept-view format _ h count view are in
+    let kept : AreStoredChunks format h.pieces h.limits count = kept-view format _ h count view are in
     let inside : i < length h.limits = omega (arith, chunks-length format h.pieces h.limits kept.chunks) in
     let here : list x ≡ get_or h.pieces i [] = mapped-at list i cs h.pieces x [] (ap (λ (k : Stored). k.pieces) view) within is in
     let limit : most x ≡ get_or h.limits i 0 = mapped-at most i cs h.limits x 0 (ap (λ (k : Stored). k.limits) view) inside is in
@@ -169,7 +169,7 @@ module _ {X : Type 0} {format : List Point → List ℕ} {list : X → List Poin
   }
 
   -- what it is cut into with a sample
-  pub with-it : (start end : ℕ) → start ≤ i → i < end → (p : Point) → IsFine p → (new : List X) → IsCut format (most x) (put p (list x)) (map list new) → HaveLimit most (most x) new
+  pub with-it : (start end : ℕ) → start ≤ i → i < end → (p : Point) → IsInBounds p → (new : List X) → IsCut format (most x) (put p (list x)) (map list new) → HaveLimit most (most x) new
       → AreNew format h start end (put p (get_or h.pieces i [])) (map list new) (map most new)
   with-it start end behind below p fine new cut bound = record {
     list = joined-cut format (most x) (put p (list x)) (map list new) cut ∙ ap (put p) one.piece;
@@ -178,7 +178,7 @@ module _ {X : Type 0} {format : List Point → List ℕ} {list : X → List Poin
   }
 
 -- where a sample that is not past the last one goes
-module _ {format : List Point → List ℕ} (h : Stored) {count : ℕ} (kept : AreKept format h.pieces h.limits count) {t place : ℕ} (p : Point) (time : t ≡ p.time)
+module _ {format : List Point → List ℕ} (h : Stored) {count : ℕ} (kept : AreStoredChunks format h.pieces h.limits count) {t place : ℕ} (p : Point) (time : t ≡ p.time)
     (late : IsUpTo p.time (last_of (points h))) (within : place ≤ length h.pieces) (early : at_times (nat_le t) (joined (take place h.pieces)) ≡ []) (reach : IsTrimmed t (drop place h.pieces)) where
   pub place-in : place < length h.pieces
   place-in = place-within t place h.pieces kept.ascending (subst (λ u. IsUpTo u (last_of (points h))) (sym time) late) within early

@@ -3,7 +3,7 @@ use Rattle.std.proofs.Common.{◌≡◌, ℕ, zero, suc, ◌+◌, ◌-◌, ◌<�
 use Rattle.std.specs.Prelude.{nat_lt, nat_le, if◌then◌else◌, option_map, Option, None, Some, Result, Ok}
 use Rattle.std.proofs.lemmas.Bool.Decides.{nat_tests}
 use Rattle.ts_spec.specs.Sample.{Point, IsAscending, IsAfter, at, at_times, put, last_of}
-use Rattle.ts_spec.specs.Rules.{raised, Merged, Refuse, Keep, To, merge}
+use Rattle.ts_spec.specs.Rules.{raised, Merged, Refuse, KeepOld, To, merge}
 use Rattle.ts_spec.specs.Refusal.{TooOld}
 use Rattle.ts_spec.specs.Step.{value_at}
 use Rattle.ts_spec.specs.declared.series.Merge.{Merge}
@@ -71,7 +71,7 @@ full-late limit edge early p h shows none kept is counted =
 pub answers-written : (m : Merged) (limit t : ℕ) (h : History) (v : ℤ) (result : Result Plan PutFault) → IsMerged m (Ok (Some v)) → IsWrite limit (sample_of t v h) h result
     → PutAnswers m limit t h result
 answers-written (Refuse r) limit t h v result is write = absurd is
-answers-written Keep limit t h v result is write = absurd (cc is)
+answers-written KeepOld limit t h v result is write = absurd (cc is)
 answers-written (To w) limit t h v result is write = let same : v ≡ w = cc is in subst (λ (x : ℤ). IsWrite limit (sample_of t x h) h result) same write
 
 -- a new sample at a time that has none

@@ -4,7 +4,7 @@ use Rattle.std.specs.Prelude.{nat_lt, nat_le}
 use Rattle.std.proofs.lemmas.Bool.Decides.{nat_tests}
 use Rattle.ts_spec.specs.Sample.{Point, at_times, between}
 use Rattle.ts_sample.specs.Chunk.{joined}
-use Rattle.ts_series.specs.Stored.{AllMeet}
+use Rattle.ts_series.specs.Stored.{AllOverlap}
 use Rattle.ts_series.specs.Seams.{IsSeam, IsSeamed}
 use Rattle.ts_series.proofs.EarlyLate.{none-less}
 use Rattle.ts_series.proofs.TimeFrom.{both-parts, all-between}
@@ -23,31 +23,31 @@ module _ (from to s e : ℕ) (low : s ≤ from) (high : to ≤ e) where
   whole ps (inr n) (inr m) f g = absurd (g (none-less (λ u. nat_lt u (suc e)) (λ t. nat_le t to) late-fails ps m))
   whole ps (inr n) (inl m) f g = all-between s e ps n (none-less (nat_le (suc e)) (nat_lt e) (λ t h. grind (arith, nat_tests)) ps m)
 
-  pub meeting-between : (start end : ℕ) (pss : List (List Point)) → start ≤ end → AllMeet from to pss start end → IsSeam s pss → IsSeam (suc e) pss
+  pub overlapping-between : (start end : ℕ) (pss : List (List Point)) → start ≤ end → AllOverlap from to pss start end → IsSeam s pss → IsSeam (suc e) pss
       → length (joined (take end pss)) ≤ length (joined (take start pss)) + length (between s e (joined pss))
-  meeting-between zero zero pss le meet x y = omega arith
-  meeting-between (suc start) zero pss le meet x y = absurd (omega arith)
-  meeting-between zero (suc end) [] le meet x y = omega arith
-  meeting-between (suc start) (suc end) [] le meet x y = omega arith
-  meeting-between zero (suc end) (ps ∷ pss) le meet x y =
+  overlapping-between zero zero pss le meet x y = omega arith
+  overlapping-between (suc start) zero pss le meet x y = absurd (omega arith)
+  overlapping-between zero (suc end) [] le meet x y = omega arith
+  overlapping-between (suc start) (suc end) [] le meet x y = omega arith
+  overlapping-between zero (suc end) (ps ∷ pss) le meet x y =
       let here = meet zero (omega arith) (omega arith) in
       omega (
         arith,
         length-append ps (joined (take end pss)),
         both-parts s e ps (joined pss),
         whole ps x.0 y.0 here.0 here.1,
-        meeting-between zero end pss (omega arith) (λ k more less. meet (suc k) (omega arith) (omega arith)) x.1 y.1,
+        overlapping-between zero end pss (omega arith) (λ k more less. meet (suc k) (omega arith) (omega arith)) x.1 y.1,
       )
-  meeting-between (suc start) (suc end) (ps ∷ pss) le meet x y =
+  overlapping-between (suc start) (suc end) (ps ∷ pss) le meet x y =
       omega (
         arith,
         length-append ps (joined (take end pss)),
         length-append ps (joined (take start pss)),
         both-parts s e ps (joined pss),
-        meeting-between start end pss (omega arith) (λ k more less. meet (suc k) (omega arith) (omega arith)) x.1 y.1,
+        overlapping-between start end pss (omega arith) (λ k more less. meet (suc k) (omega arith) (omega arith)) x.1 y.1,
       )
 
 -- a walk over whole pieces that meet an interval
-pub seamed-walk : (from to start end old new : ℕ) (pss : List (List Point)) → start ≤ end → AllMeet from to pss start end
+pub seamed-walk : (from to start end old new : ℕ) (pss : List (List Point)) → start ≤ end → AllOverlap from to pss start end
     → new + length (joined (take start pss)) ≤ old + length (joined (take end pss)) → IsSeamed pss from to old new
-seamed-walk from to start end old new pss le meet steps s e x y low high = omega (arith, steps, meeting-between from to s e low high start end pss le meet x y)
+seamed-walk from to start end old new pss le meet steps s e x y low high = omega (arith, steps, overlapping-between from to s e low high start end pss le meet x y)

@@ -7,7 +7,7 @@ use Rattle.ts_sample.specs.Chunk.{joined}
 use Rattle.ts_spec.specs.declared.series.Options.{Options}
 use Rattle.ts_spec.specs.State.{edge_of}
 use Rattle.ts_sample.proofs.Lists.{ascending-right}
-use Rattle.ts_series.specs.Stored.{Stored, AreChunks, IsMeeting, IsTrimmed, HaveBegun, longest, points}
+use Rattle.ts_series.specs.Stored.{Stored, AreChunks, IsOverlapping, IsTrimmed, HaveBegun, longest, points}
 use Rattle.ts_series.specs.History.{History, history_of, list_of, reach, IsKeptIn}
 use Rattle.ts_series.specs.Seams.{Around}
 use Rattle.ts_series.proofs.EarlyLate.{none-head, none-left, none-both, after-none, after-some}
@@ -73,14 +73,14 @@ early-pieces edge from start (suc i) (ps ∷ pss) is trimmed n = go (orders edge
     go (inl le) = let same : start ≡ from = omega arith in subst (λ t. at_times (nat_le t) (joined (take (suc i) (ps ∷ pss))) ≡ []) same n
     go (inr less) = let same : start ≡ edge = omega arith in absurd (trimmed (subst (λ t. at_times (nat_le t) ps ≡ []) same (none-left (nat_le start) ps (joined (take i pss)) n)))
 
-module _ (from to start place end : ℕ) (pss : List (List Point)) (meeting : IsMeeting start to pss place end) (rises : IsAscending (joined pss))
+module _ (from to start place end : ℕ) (pss : List (List Point)) (overlapping : IsOverlapping start to pss place end) (rises : IsAscending (joined pss))
     (early : at_times (nat_le from) (joined (take place pss)) ≡ []) where
   pub around : (n : ℕ) → length (between start to (joined pss)) + 2 * longest pss ≤ n → Around from to n pss
   around n le =
       let a : Parts from (joined (take place pss)) (joined (drop place pss)) =
       parted from (joined (take place pss)) (joined (drop place pss)) (subst IsAscending (joined-parts place pss) rises) early in
       let b : PartsPast to (joined (take end pss)) (joined (drop end pss)) =
-      parted-past to (joined (take end pss)) (joined (drop end pss)) (subst IsAscending (joined-parts end pss) rises) meeting.past in
+      parted-past to (joined (take end pss)) (joined (drop end pss)) (subst IsAscending (joined-parts end pss) rises) overlapping.past in
       record {
         first = a.time;
         last = b.time;
@@ -88,7 +88,7 @@ module _ (from to start place end : ℕ) (pss : List (List Point)) (meeting : Is
         ends = seam-at (suc b.time) end pss b.early b.late;
         before = a.upto;
         past = b.from;
-        few = omega (arith, le, inner-few a.time b.time place end pss meeting.ordered a.early b.late, walked start to place end pss meeting);
+        few = omega (arith, le, inner-few a.time b.time place end pss overlapping.ordered a.early b.late, walked start to place end pss overlapping);
       }
 
 -- around each interval of a series
@@ -102,12 +102,12 @@ around-series format at_least o high born held h kept view from to =
     let a : Start start pss = start-of start pss in
     let b : Upto to pss = upto-of format to pss held.limits kept.chunks.chunks rises in
     let end : ℕ = max b.place a.place in
-    let meeting : IsMeeting start to pss a.place end = meets start to pss a.place b.place end rises refl a.within b.within a.earlier a.reached b.later b.begun in
+    let overlapping : IsOverlapping start to pss a.place end = meets start to pss a.place b.place end rises refl a.within b.within a.earlier a.reached b.later b.begun in
     let early = early-pieces edge from start a.place pss refl kept.trimmed a.earlier in
     let shown = ap length (between-from edge (points held) from to) in
     let far = within_reach at_least kept refl in
     subst (λ (k : History). Around from to (length (between from to (list_of k)) + 2 * reach k) k.held.pieces) view
-    (around from to start a.place end pss meeting rises early (length (between from to (list_of (history_of o high born held))) + 2 * reach (history_of o high born held)) (omega (arith, shown, far)))
+    (around from to start a.place end pss overlapping rises early (length (between from to (list_of (history_of o high born held))) + 2 * reach (history_of o high born held)) (omega (arith, shown, far)))
 
 -- between one time and the next at most one piece is cut
 cut : (t : ℕ) (pss : List (List Point)) → IsAscending (joined pss) → (n : ℕ) → longest pss ≤ n → Around (suc t) t n pss

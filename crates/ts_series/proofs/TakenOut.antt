@@ -6,7 +6,7 @@ use Rattle.std.proofs.lemmas.Bool.Decides.{nat_tests}
 use Rattle.ts_spec.specs.Sample.{Point, IsAfter, at_times, is_within, between, outside}
 use Rattle.ts_spec.proofs.Samples.{IsBefore}
 use Rattle.ts_sample.specs.Chunk.{joined}
-use Rattle.ts_series.specs.Stored.{longest, IsMeeting, replaced}
+use Rattle.ts_series.specs.Stored.{longest, IsOverlapping, replaced}
 use Rattle.ts_series.proofs.Counting.{times-append}
 use Rattle.ts_series.proofs.Joined.{longest-at}
 use Rattle.ts_series.proofs.PieceCounts.{three-parts, joined-replaced}
@@ -60,7 +60,7 @@ length-sides test (p ∷ ps) = go (test p.time) (length-sides test ps)
     go false ih = omega (arith, ih)
 
 -- the places of an interval, and what is left in them
-module _ (from to start end : ℕ) (pss : List (List Point)) (meets : IsMeeting from to pss start end) where
+module _ (from to start end : ℕ) (pss : List (List Point)) (meets : IsOverlapping from to pss start end) where
   before-it : IsBefore from (joined (take start pss))
   before-it = none-from from (joined (take start pss)) meets.before
 
@@ -109,7 +109,7 @@ left-one from to start end pss is within =
     ∙ outside-last from to zero start pss (omega arith) (λ k low high. absurd (omega arith))
     ∙ ap (λ n. outside from to (get_or pss n [])) (let same : start + 0 ≡ start = omega arith in same)
 
-pub left-two : (from to start end : ℕ) (pss : List (List Point)) → IsMeeting from to pss start end → start + 1 < end
+pub left-two : (from to start end : ℕ) (pss : List (List Point)) → IsOverlapping from to pss start end → start + 1 < end
     → outside from to (joined (slice_range pss start end)) ≡ outside from to (get_or pss start []) ++ outside from to (get_or pss (end - 1) [])
 left-two from to start end pss meets more =
     let m : ℕ = end - start - 2 in
@@ -123,7 +123,7 @@ left-two from to start end pss meets more =
     (outside-last from to m (suc start) pss (omega arith) (λ k low below. meets.inner k (omega arith) (omega arith)) ∙ ap (λ n. outside from to (get_or pss n [])) high)
 
 -- at most two pieces have samples that are not in the interval
-outside-short : (from to start end : ℕ) (pss : List (List Point)) → IsMeeting from to pss start end → length (outside from to (joined (slice_range pss start end))) ≤ 2 * longest pss
+outside-short : (from to start end : ℕ) (pss : List (List Point)) → IsOverlapping from to pss start end → length (outside from to (joined (slice_range pss start end))) ≤ 2 * longest pss
 outside-short from to start end pss meets = go (places start end meets.ordered)
   where
     places : (i j : ℕ) → i ≤ j → (i ≡ j) ⊎ ((i + 1 ≡ j) ⊎ (i + 1 < j))
@@ -144,11 +144,11 @@ outside-short from to start end pss meets = go (places start end meets.ordered)
         )
 
 -- the pieces that an interval meets have its samples, and few others
-pub near-least : (from to start end : ℕ) (pss : List (List Point)) → IsMeeting from to pss start end → length (between from to (joined pss)) ≤ length (joined (slice_range pss start end))
+pub near-least : (from to start end : ℕ) (pss : List (List Point)) → IsOverlapping from to pss start end → length (between from to (joined pss)) ≤ length (joined (slice_range pss start end))
 near-least from to start end pss meets =
     omega (arith, length-sides (is_within from to) (joined (slice_range pss start end)), ap length (between-mid from to start end pss meets))
 
-pub near-most : (from to start end : ℕ) (pss : List (List Point)) → IsMeeting from to pss start end
+pub near-most : (from to start end : ℕ) (pss : List (List Point)) → IsOverlapping from to pss start end
     → length (joined (slice_range pss start end)) ≤ length (between from to (joined pss)) + 2 * longest pss
 near-most from to start end pss meets =
     omega (

@@ -8,7 +8,7 @@ use Rattle.ts_spec.specs.Sample.{Point, at_times, is_within, between, outside}
 use Rattle.ts_sample.specs.Chunk.{joined}
 use Rattle.ts_sample.specs.Visit.{visited}
 use Rattle.ts_sample.proofs.Visiting.{room_left}
-use Rattle.ts_series.specs.Stored.{IsMeeting, longest}
+use Rattle.ts_series.specs.Stored.{IsOverlapping, longest}
 use Rattle.ts_series.proofs.Counting.{times-append}
 use Rattle.ts_series.proofs.Joined.{joined-parts, longest-at, joined-at}
 use Rattle.ts_series.proofs.EarlyLate.{none-less}
@@ -59,14 +59,14 @@ module _ (from to : ℕ) where
   both-length : (ps : List Point) → length (between from to ps) + length (outside from to ps) ≡ length ps
   both-length ps = length-filter_both (λ (p : Point). is_within from to p.time) (λ (p : Point). not (is_within from to p.time)) (λ p. refl) ps
 
-  module _ (start end : ℕ) (pss : List (List Point)) (meeting : IsMeeting from to pss start end) where
+  module _ (start end : ℕ) (pss : List (List Point)) (overlapping : IsOverlapping from to pss start end) where
     pub none-first : between from to (joined (take start pss)) ≡ []
-    none-first = none-before-it (joined (take start pss)) meeting.before
+    none-first = none-before-it (joined (take start pss)) overlapping.before
 
     pub all-taken : between from to (joined (take end pss)) ≡ between from to (joined pss)
     all-taken =
         sym (ap (between from to) (joined-parts end pss) ∙ times-append (is_within from to) (joined (take end pss)) (joined (drop end pss))
-        ∙ ap (λ (l : List Point). between from to (joined (take end pss)) ++ l) (none-past-it (joined (drop end pss)) meeting.past)
+        ∙ ap (λ (l : List Point). between from to (joined (take end pss)) ++ l) (none-past-it (joined (drop end pss)) overlapping.past)
         ∙ append-nil (between from to (joined (take end pss))))
 
     -- up to the last chunk, only the first one may have samples that are not of the interval
@@ -77,11 +77,11 @@ module _ (from to : ℕ) where
     walked-upto (suc (suc d)) zero is less = absurd (omega arith)
     walked-upto (suc (suc d)) (suc e) is less =
         let sofar = walked-upto (suc d) e (omega arith) (omega arith) in
-        let none : outside from to (get_or pss e []) ≡ [] = meeting.inner e (omega arith) less in
+        let none : outside from to (get_or pss e []) ≡ [] = overlapping.inner e (omega arith) less in
         omega (arith, sofar, length-more e (suc e) pss refl, counted-more e (suc e) pss refl, both-length (get_or pss e []), ap length none)
 
     pub walked : length (joined (take end pss)) ≤ length (joined (take start pss)) + length (between from to (joined pss)) + 2 * longest pss
-    walked = go (cases start end meeting.ordered)
+    walked = go (cases start end overlapping.ordered)
       where
         cases : (start end : ℕ) → start ≤ end → (end ≡ start) ⊎ ((d : ℕ) × (end ≡ suc (start + d)))
         cases start zero le = inl (omega arith)

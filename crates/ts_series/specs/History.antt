@@ -9,7 +9,7 @@ use Rattle.ts_spec.specs.Valid.{IsOwn, Every}
 use Rattle.ts_sample.specs.Chunk.{least_limit, greatest_limit}
 use Rattle.ts_chunk_packed.specs.Packed.{packed}
 use Rattle.ts_chunk_plain.specs.Plain.{plain}
-use Rattle.ts_series.specs.Stored.{Stored, points, AreKept, AreAmong, IsTrimmed, greatest}
+use Rattle.ts_series.specs.Stored.{Stored, points, AreStoredChunks, AreAmong, IsTrimmed, greatest}
 
 -- A series: its options, its samples, the highest time it ever had a sample at, the number of rules ever created on
 -- it, and its chunks.
@@ -65,7 +65,7 @@ pub record IsKeptIn (format : List Point → List ℕ) (h : History) : Type 0 wh
   pub ascending : IsAscending h.samples
   pub past_edge : at_times (nat_le (edge_of h.options.retention h.high)) h.samples ≡ h.samples
   pub own : Every (IsOwn (record_of [] h)) h.samples
-  pub chunks : AreKept format h.held.pieces h.held.limits (length (points h.held))
+  pub chunks : AreStoredChunks format h.held.pieces h.held.limits (length (points h.held))
   pub trimmed : IsTrimmed (edge_of h.options.retention h.high) h.held.pieces
 
 -- the same in the format of the series' encoding

@@ -8,19 +8,19 @@ use Rattle.ts_spec.specs.declared.series.Options.{Options}
 use Rattle.ts_spec.specs.declared.series.Policy.{Policy}
 use Rattle.ts_spec.specs.Sample.{Point, at_times, outside, put_all}
 use Rattle.ts_spec.specs.State.{edge_of}
-use Rattle.ts_spec.specs.Mending.{high_with}
-use Rattle.ts_series.specs.declared.line_plan.Interval.{Interval}
-use Rattle.ts_series.specs.declared.line_plan.Rows.{Rows}
-use Rattle.ts_series.specs.declared.line_plan.Rows.TheVariants.{Empty, One, Many}
+use Rattle.ts_spec.specs.StoredUpdates.{high_after_rows}
+use Rattle.ts_series.specs.declared.chunked_series_plan.Interval.{Interval}
+use Rattle.ts_series.specs.declared.chunked_series_plan.Rows.{Rows}
+use Rattle.ts_series.specs.declared.chunked_series_plan.Rows.TheVariants.{Empty, One, Many}
 use Rattle.ts_sample.specs.Chunk.{joined}
 use Rattle.ts_series.specs.Stored.{Stored, Change, no_change, pieces_after, IsChangeOf, HasLimits}
 use Rattle.ts_series.specs.History.{History, list_of, low, limit_for, format_of}
 
 -- the samples of rows
-abbrev pub listed : Rows → List Point
-listed Empty = []
-listed (One p) = p ∷ []
-listed (Many v) = v.items
+abbrev pub row_samples : Rows → List Point
+row_samples Empty = []
+row_samples (One p) = p ∷ []
+row_samples (Many v) = v.items
 
 -- every sample is in the interval
 abbrev pub AreWithin : (from to : ℕ) → List Point → Type 0
@@ -53,8 +53,8 @@ without_cut (Some i) ps = outside i.from i.to ps
 abbrev pub after : Plan → History → History
 after plan h = record h {
   options = unwrap_or plan.options h.options;
-  samples = at_times (nat_le (edge_of (unwrap_or plan.options h.options).retention (high_with plan.wrote h.high))) (put_all plan.wrote (without_cut plan.cut h.samples));
-  high = high_with plan.wrote h.high;
+  samples = at_times (nat_le (edge_of (unwrap_or plan.options h.options).retention (high_after_rows plan.wrote h.high))) (put_all plan.wrote (without_cut plan.cut h.samples));
+  high = high_after_rows plan.wrote h.high;
 }
 
 -- a plan that only writes this sample
@@ -102,9 +102,9 @@ options_with retention chunk_size policy ignore old = record {
 }
 
 -- the number of chunks the series can hold once it has the plan's buffer
-abbrev pub places_for : Option ℕ → Stored → ℕ
-places_for None h = length h.pieces + h.room
-places_for (Some room) h = room
+abbrev pub chunk_capacity : Option ℕ → Stored → ℕ
+chunk_capacity None h = length h.pieces + h.room
+chunk_capacity (Some room) h = room
 
 -- The plan fits this series: the encoding stays, the change fits its chunks and leads to the samples after the plan,
 -- and a commit allocates nothing.
@@ -112,8 +112,8 @@ pub record IsForIn (format : List Point → List ℕ) (plan : Plan) (h : History
   pub encoding : plan.encoding ≡ h.options.encoding
   pub stays : (unwrap_or plan.options h.options).encoding ≡ h.options.encoding
   pub made : AreMade h.born plan.wrote
-  pub change : IsChangeOf format (places_for plan.room h.held) h.held.pieces h.held.limits plan.change
-  pub holds_all : length h.held.pieces ≤ places_for plan.room h.held
+  pub change : IsChangeOf format (chunk_capacity plan.room h.held) h.held.pieces h.held.limits plan.change
+  pub holds_all : length h.held.pieces ≤ chunk_capacity plan.room h.held
   pub limits : HasLimits (limit_for h.options.chunk_size) h.held.limits plan.change
   pub list : at_times (nat_le (low (after plan h))) (joined (pieces_after plan.change h.held.pieces)) ≡ list_of (after plan h)
 

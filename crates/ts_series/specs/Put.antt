@@ -5,7 +5,7 @@ use Rattle.ts_spec.specs.declared.series.Merge.{Merge}
 use Rattle.ts_spec.specs.Sample.{Point, at}
 use Rattle.ts_spec.specs.Refusal as refusal
 use Rattle.ts_spec.specs.Refusal.{Refusal}
-use Rattle.ts_spec.specs.Rules.{Merged, Refuse, Keep, To, merge}
+use Rattle.ts_spec.specs.Rules.{Merged, Refuse, KeepOld, To, merge}
 use Rattle.ts_spec.specs.Step.{value_at}
 use Rattle.ts_series.specs.declared.plan.PutFault.{PutFault}
 use Rattle.ts_series.specs.declared.plan.PutFault.TheVariants.{TooOld, Duplicate, OutOfRange, Full, Unwritten, Memory}
@@ -86,7 +86,7 @@ IsWrite limit p h (Err fault) = IsFullFault limit p h fault
 -- runs out.
 abbrev pub PutAnswers : Merged → (limit : ℕ) → (time : ℕ) → History → Result Plan PutFault → Type 0
 PutAnswers (Refuse r) limit t h result = IsRefused r result
-PutAnswers Keep limit t h result = IsNothing result
+PutAnswers KeepOld limit t h result = IsNothing result
 PutAnswers (To v) limit t h result = IsWrite limit (sample_of t v h) h result
 
 -- ---- how a value meets the one that is there
@@ -95,7 +95,7 @@ PutAnswers (To v) limit t h result = IsWrite limit (sample_of t v h) h result
 abbrev pub IsMerged : Merged → Result (Option ℤ) PutFault → Type 0
 IsMerged (Refuse r) (Ok value) = ⊥
 IsMerged (Refuse r) (Err fault) = refusal_of fault ≡ Some r
-IsMerged Keep (Ok value) = value ≡ None
-IsMerged Keep (Err fault) = ⊥
+IsMerged KeepOld (Ok value) = value ≡ None
+IsMerged KeepOld (Err fault) = ⊥
 IsMerged (To v) (Ok value) = value ≡ Some v
 IsMerged (To v) (Err fault) = ⊥

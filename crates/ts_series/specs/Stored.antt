@@ -34,14 +34,14 @@ AreChunks format [] (n ∷ ns) = ⊥
 AreChunks format (ps ∷ pss) [] = ⊥
 
 -- the chunks are valid and in order, and `count` is their number of samples
-pub record AreKept (format : List Point → List ℕ) (pieces : List (List Point)) (limits : List ℕ) (count : ℕ) : Type 0 where
+pub record AreStoredChunks (format : List Point → List ℕ) (pieces : List (List Point)) (limits : List ℕ) (count : ℕ) : Type 0 where
   pub chunks : AreChunks format pieces limits
   pub ascending : IsAscending (joined pieces)
   pub counted : count ≡ length (joined pieces)
 
 -- The chunks `start..end` hold all samples of the interval, and those between the first and the last of them hold no
 -- others.
-pub record IsMeeting (from to : ℕ) (pieces : List (List Point)) (start end : ℕ) : Type 0 where
+pub record IsOverlapping (from to : ℕ) (pieces : List (List Point)) (start end : ℕ) : Type 0 where
   pub ordered : start ≤ end
   pub within : end ≤ length pieces
   pub before : at_times (nat_le from) (joined (take start pieces)) ≡ []
@@ -49,8 +49,8 @@ pub record IsMeeting (from to : ℕ) (pieces : List (List Point)) (start end : �
   pub inner : (k : ℕ) → start < k → suc k < end → outside from to (get_or pieces k []) ≡ []
 
 -- every piece of the range has a sample at or after `from` and one at or before `to`
-abbrev pub AllMeet : (from to : ℕ) → List (List Point) → (start end : ℕ) → Type 0
-AllMeet from to pieces start end =
+abbrev pub AllOverlap : (from to : ℕ) → List (List Point) → (start end : ℕ) → Type 0
+AllOverlap from to pieces start end =
     (k : ℕ) → start ≤ k → k < end → (at_times (nat_le from) (get_or pieces k []) ≢ []) × (at_times (λ t. nat_le t to) (get_or pieces k []) ≢ [])
 
 -- the first piece, if there is one, has a sample at or after the retention edge
@@ -97,12 +97,12 @@ abbrev pub limits_after : Change → List ℕ → List ℕ
 limits_after c ns = replaced c.start c.end c.limits ns
 
 -- the sample, if there is one, comes after the last chunk's last sample and fits in that chunk
-abbrev pub HasRoomFor : (format : List Point → List ℕ) → Option Point → List (List Point) → (limits : List ℕ) → Type 0
-HasRoomFor format None pss ns = ⊤
-HasRoomFor format (Some p) [] ns = ⊥
-HasRoomFor format (Some p) (ps ∷ pss) [] = ⊥
-HasRoomFor format (Some p) (ps ∷ []) (n ∷ ns) = IsPast (last_of ps) p.time × Fits format n (ps ++ p ∷ [])
-HasRoomFor format (Some p) (ps ∷ qs ∷ pss) (n ∷ ns) = HasRoomFor format (Some p) (qs ∷ pss) ns
+abbrev pub LastChunkFits : (format : List Point → List ℕ) → Option Point → List (List Point) → (limits : List ℕ) → Type 0
+LastChunkFits format None pss ns = ⊤
+LastChunkFits format (Some p) [] ns = ⊥
+LastChunkFits format (Some p) (ps ∷ pss) [] = ⊥
+LastChunkFits format (Some p) (ps ∷ []) (n ∷ ns) = IsPast (last_of ps) p.time × Fits format n (ps ++ p ∷ [])
+LastChunkFits format (Some p) (ps ∷ qs ∷ pss) (n ∷ ns) = LastChunkFits format (Some p) (qs ∷ pss) ns
 
 -- The change fits these chunks: its range is valid, the last chunk can hold the sample, the result is in ascending
 -- time, and the buffer can hold all chunks.
@@ -110,7 +110,7 @@ pub record IsChangeOf (format : List Point → List ℕ) (room : ℕ) (pieces : 
   pub ordered : c.start ≤ c.end
   pub within : c.end ≤ length pieces
   pub ascending : IsAscending (joined (pieces_after c pieces))
-  pub appends : HasRoomFor format c.appended (replaced c.start c.end c.pieces pieces) (replaced c.start c.end c.limits limits)
+  pub appends : LastChunkFits format c.appended (replaced c.start c.end c.pieces pieces) (replaced c.start c.end c.limits limits)
   pub enough : length (replaced c.start c.end c.pieces pieces) ≤ room
 
 -- the same, once the buffer is large enough

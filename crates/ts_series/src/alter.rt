@@ -8,15 +8,15 @@ ghost use Rattle.ts_series.specs.History.{list_of, reach};
 ghost use Rattle.ts_series.specs.Plan.{IsForIn, Alters, options_with};
 
 use crate::change::Change;
+use crate::chunked_series::ChunkedSeries;
+use crate::chunked_series_plan::{ChunkedSeriesPlan, Rows};
 use crate::edge::edge_at;
-use crate::line::Line;
-use crate::line_plan::{LinePlan, Rows};
 use std::alloc::AllocError;
 use std::sync::ledger::Ledger;
 use ts_sample::{Chunk, Steps};
 use ts_spec::{Ignore, Options, Policy};
 
-impl<C: Chunk> Line<C> {
+impl<C: Chunk> ChunkedSeries<C> {
     // Plans new options; `None` leaves an option as it is. `retention` is in milliseconds, and 0 keeps samples
     // forever. `chunk_size` is in bytes and applies to chunks created later. Drops samples before the old or the new
     // retention edge.
@@ -27,7 +27,7 @@ impl<C: Chunk> Line<C> {
         policy: Option<Policy>,
         ignore: Option<Ignore>,
         steps: &mut Steps<L>,
-    ) -> Result<LinePlan<C>, AllocError>
+    ) -> Result<ChunkedSeriesPlan<C>, AllocError>
         ensures planned { IfOk result (λ plan. IsForIn C.format plan self.now) }
         ensures options { IfOk result (Alters (options_with retention chunk_size policy ignore self.now.options)) }
         ensures steps { Takes steps.old steps.new (2 * reach self.now) }
@@ -42,7 +42,7 @@ impl<C: Chunk> Line<C> {
         };
         let change = self.without_expired(edge_at(options.retention, self.high), steps)?;
         let larger = self.chunks.larger(&change, self.alloc)?;
-        Ok(LinePlan {
+        Ok(ChunkedSeriesPlan {
             cut: None,
             removed: 0,
             encoding: self.options.encoding,
@@ -61,7 +61,8 @@ impl<C: Chunk> Line<C> {
     ) -> Result<Change<C>, AllocError>
         ensures ready { IfOk result (λ c. IsReady C.format self.now.held c) }
         ensures limits { (one : ℕ) → IfOk result (λ c. HasLimits one self.now.held.limits c) }
-        ensures list { IfOk result (λ c. at_times (nat_le edge) (joined (pieces_after c self.now.held.pieces)) ≡ at_times (nat_le edge) (list_of self.now)) }
+        ensures list { IfOk result (λ c. at_times (nat_le edge) (joined (pieces_after c self.now.held.pieces))
+            ≡ at_times (nat_le edge) (list_of self.now)) }
         ensures steps { Takes steps.old steps.new (2 * longest self.now.held.pieces) }
     {
         let old = self.edge();

@@ -3,14 +3,14 @@ ghost use Rattle.std.specs.Prelude.{◌≡◌, ◌≤◌, true, IfSome, Some, Ok
 ghost use Rattle.ts_spec.specs.Sample.{MAX_TIME, last_of};
 ghost use Rattle.ts_spec.specs.declared.series.Merge.{Merge as TheMerge};
 ghost use Rattle.ts_sample.specs.Chunk.{IsPast};
-ghost use Rattle.ts_series.specs.Stored.{points, HasRoomFor};
+ghost use Rattle.ts_series.specs.Stored.{points, LastChunkFits};
 ghost use Rattle.ts_series.specs.History.{reach, IsKeptIn, KeepsLimits};
 ghost use Rattle.ts_series.specs.Plan.{IsForIn, after, appends};
 ghost use Rattle.ts_series.specs.Put.{met, PutAnswers};
 
+use crate::chunked_series::ChunkedSeries;
 use crate::chunks::Chunks;
 use crate::edge::{edge_at, raise};
-use crate::line::Line;
 use std::marker::Model;
 use ts_sample::{Chunk, Sample, Units};
 use ts_spec::Encoding;
@@ -40,13 +40,14 @@ impl Append {
     }
 }
 
-impl<C: Chunk> Line<C> {
+impl<C: Chunk> ChunkedSeries<C> {
     // Plans a write after the last sample, if the last chunk can hold it and the series cannot be full. `None` says
     // nothing about whether the write is valid otherwise.
     pub(crate) fn plan_append(&self, time: u64, value: Units, limit: u32) -> Option<Append>
         requires { time ≤ MAX_TIME }
         ensures planned { IfSome result (λ plan. IsForIn C.format plan self.now) }
-        ensures answer { (how : TheMerge) → IfSome result (λ plan. PutAnswers (met how time value self.now) limit time self.now (Ok plan)) }
+        ensures answer { (how : TheMerge)
+            → IfSome result (λ plan. PutAnswers (met how time value self.now) limit time self.now (Ok plan)) }
     {
         if time < self.edge() {
             return None;
@@ -59,7 +60,7 @@ impl<C: Chunk> Line<C> {
         }
         let made = self.born;
         let sample = Sample { time, value, made };
-        if !self.chunks.has_room_for(&sample) {
+        if !self.chunks.last_chunk_fits(&sample) {
             return None;
         }
         let encoding = self.options.encoding;
@@ -84,9 +85,9 @@ impl<C: Chunk> Line<C> {
 
 impl<C: Chunk> Chunks<C> {
     // Whether there is a last chunk that can hold a sample after its last one.
-    fn has_room_for(&self, sample: &Sample) -> bool
+    fn last_chunk_fits(&self, sample: &Sample) -> bool
         requires past { IsPast (last_of (points self.now)) sample.now.time }
-        ensures room { result ≡ true → HasRoomFor C.format (Some sample.now) self.now.pieces self.now.limits }
+        ensures room { result ≡ true → LastChunkFits C.format (Some sample.now) self.now.pieces self.now.limits }
     {
         match self.chunks.back() {
             None => false,

@@ -4,7 +4,7 @@ ghost use Rattle.std.specs.VecDeque.{deque_capacity};
 ghost use Rattle.ts_spec.specs.Sample.{IsAscending, at_times};
 ghost use Rattle.ts_sample.specs.Chunk.{joined};
 ghost use Rattle.ts_series.specs.Stored.{points, pieces_after, limits_after, no_change, replaced, with_last};
-ghost use Rattle.ts_series.specs.Stored.{AreAmong, AreChunks, AreKept, HasRoomFor, IsChangeOf, IsTrimmed};
+ghost use Rattle.ts_series.specs.Stored.{AreAmong, AreChunks, AreStoredChunks, LastChunkFits, IsChangeOf, IsTrimmed};
 
 use crate::chunks::{Chunks, count_in};
 use crate::ring::replace_between;
@@ -75,7 +75,7 @@ impl<C: Chunk> Chunks<C> {
 
     // Appends a sample to the last chunk, which can hold it.
     pub(crate) fn append(&mut self, sample: &Sample)
-        requires room { HasRoomFor C.format (Some sample.now) self.old.pieces self.old.limits }
+        requires room { LastChunkFits C.format (Some sample.now) self.old.pieces self.old.limits }
         requires ascending { IsAscending (joined (with_last (Some sample.now) self.old.pieces)) }
         ensures pieces { self.new.pieces ≡ with_last (Some sample.now) self.old.pieces }
         ensures limits { self.new.limits ≡ self.old.limits }
@@ -94,7 +94,8 @@ impl<C: Chunk> Chunks<C> {
         requires ordered { start ≤ end }
         requires within { end ≤ length self.old.pieces }
         requires ascending { IsAscending (joined (replaced start end (map C.list chunks.items) self.old.pieces)) }
-        requires enough { length (replaced start end (map C.list chunks.items) self.old.pieces) ≤ length self.old.pieces + self.old.room }
+        requires enough { length (replaced start end (map C.list chunks.items) self.old.pieces)
+            ≤ length self.old.pieces + self.old.room }
         ensures pieces { self.new.pieces ≡ replaced start end (map C.list chunks.items) self.old.pieces }
         ensures limits { self.new.limits ≡ replaced start end (map C.most chunks.items) self.old.limits }
         ensures room { length self.old.pieces + self.old.room ≤ length self.new.pieces + self.new.room }
@@ -109,7 +110,7 @@ impl<C: Chunk> Chunks<C> {
         ensures kept { at_times (nat_le edge) (points self.new) ≡ at_times (nat_le edge) (points self.old) }
         ensures trimmed { IsTrimmed edge self.new.pieces }
         ensures limits { (one : ℕ) → AreAmong one self.old.limits self.new.limits }
-        ensures chunks { AreKept C.format self.new.pieces self.new.limits (length (points self.new)) }
+        ensures chunks { AreStoredChunks C.format self.new.pieces self.new.limits (length (points self.new)) }
         ensures room { length self.new.pieces + self.new.room ≡ length self.old.pieces + self.old.room }
     {
         while self.has_expired(edge) {
@@ -134,12 +135,13 @@ impl<C: Chunk> Chunks<C> {
     }
 
     // Moves the chunks into the larger buffer, if there is one.
-    pub(crate) fn grow(&mut self, larger: Option<VecDeque<C>>)
+    pub(crate) fn grow_capacity(&mut self, larger: Option<VecDeque<C>>)
         requires empty { IfSome larger (λ q. q.items ≡ []) }
         requires enough { IfSome larger (λ q. length self.old.pieces ≤ deque_capacity q) }
         ensures pieces { self.new.pieces ≡ self.old.pieces }
         ensures limits { self.new.limits ≡ self.old.limits }
-        ensures room { MatchOption larger (self.new.room ≡ self.old.room) (λ q. length self.new.pieces + self.new.room ≡ deque_capacity q) }
+        ensures room { MatchOption larger (self.new.room ≡ self.old.room) (λ q. length self.new.pieces + self.new.room
+            ≡ deque_capacity q) }
     {
         let Some(mut larger) = larger else {
             return;

@@ -3,11 +3,11 @@ ghost use Rattle.std.specs.Prelude.{◌≡◌, ◌≤◌, nat_le, [], length, ta
 ghost use Rattle.std.specs.Prelude.{option_map, IfOk, IfSome};
 ghost use Rattle.ts_spec.specs.Sample.{IsAscending, last_of, at_times, between};
 ghost use Rattle.ts_sample.specs.Chunk.{joined, IsLimit};
-ghost use Rattle.ts_series.specs.Stored.{points, IsMeeting, AllMeet, IsTrimmed, HaveBegun, longest};
+ghost use Rattle.ts_series.specs.Stored.{points, IsOverlapping, AllOverlap, IsTrimmed, HaveBegun, longest};
 ghost use Rattle.ts_sample.specs.Steps.{Takes};
 ghost use Rattle.std.specs.VecDeque.{deque_capacity};
 ghost use Rattle.ts_series.specs.History.{limit_for};
-ghost use Rattle.ts_series.specs.Plan.{places_for};
+ghost use Rattle.ts_series.specs.Plan.{chunk_capacity};
 
 use crate::change::Change;
 use std::alloc::{AllocError, Global};
@@ -27,7 +27,7 @@ pub(crate) struct Chunks<C: Chunk> {
 impl<C: Chunk> Model for Chunks<C> {
     ghost use Rattle.std.specs.Prelude.{◌-◌, map};
     ghost use Rattle.std.specs.VecDeque.{deque_len, deque_capacity};
-    ghost use Rattle.ts_series.specs.Stored.{Stored, AreKept};
+    ghost use Rattle.ts_series.specs.Stored.{Stored, AreStoredChunks};
 
     ghost Value = { Stored };
 
@@ -37,7 +37,7 @@ impl<C: Chunk> Model for Chunks<C> {
       room = deque_capacity s.chunks - deque_len s.chunks;
     } };
 
-    ghost invariant = { λ s. AreKept C.format (map C.list s.chunks.items) (map C.most s.chunks.items) s.count };
+    ghost invariant = { λ s. AreStoredChunks C.format (map C.list s.chunks.items) (map C.most s.chunks.items) s.count };
 }
 
 impl<C: Chunk> Chunks<C> {
@@ -94,9 +94,9 @@ impl<C: Chunk> Chunks<C> {
     }
 
     // The range of chunks that may have samples from `from` to `to`.
-    pub(crate) fn meeting(&self, from: u64, to: u64) -> Range<usize>
-        ensures meeting { IsMeeting from to self.now.pieces result.start result.end }
-        ensures each { AllMeet from to self.now.pieces result.start result.end }
+    pub(crate) fn overlapping(&self, from: u64, to: u64) -> Range<usize>
+        ensures overlapping { IsOverlapping from to self.now.pieces result.start result.end }
+        ensures each { AllOverlap from to self.now.pieces result.start result.end }
     {
         // Does nothing at run time: reading the field tells the proof that the chunks are in order.
         let _ = &self.chunks;
@@ -106,11 +106,11 @@ impl<C: Chunk> Chunks<C> {
 
     // An upper bound of the number of samples from `from` to `to`: all samples of the chunks that may have some.
     // Decodes nothing.
-    pub(crate) fn count_near(&self, from: u64, to: u64) -> usize
+    pub(crate) fn count_upper_bound(&self, from: u64, to: u64) -> usize
         ensures least { length (between from to (points self.now)) ≤ result }
         ensures most { result ≤ length (between from to (points self.now)) + 2 * longest self.now.pieces }
     {
-        let places = self.meeting(from, to);
+        let places = self.overlapping(from, to);
         self.count_of(places.start, places.end)
     }
 
@@ -148,7 +148,8 @@ impl<C: Chunk> Chunks<C> {
         alloc: Global,
     ) -> Result<Option<VecDeque<C>>, AllocError>
         ensures empty { IfOk result (λ o. IfSome o (λ q. q.items ≡ [])) }
-        ensures enough { IfOk result (λ o. length self.now.pieces + length change.now.pieces ≤ places_for (option_map (λ q. deque_capacity q) o) self.now) }
+        ensures enough { IfOk result (λ o. length self.now.pieces + length change.now.pieces
+            ≤ chunk_capacity (option_map (λ q. deque_capacity q) o) self.now) }
     {
         let (len, more) = (self.chunks.len(), change.chunks.len());
         if more <= self.chunks.capacity() - len {

@@ -4,8 +4,8 @@ ghost use Rattle.ts_spec.specs.Sample.{at_times, first_of};
 ghost use Rattle.ts_sample.specs.Steps.{Takes};
 ghost use Rattle.ts_series.specs.History.{list_of, reach};
 
-use crate::line_cursor::LineCursor;
-use crate::series::{Lines, Series};
+use crate::chunked_series_cursor::ChunkedSeriesCursor;
+use crate::series::{Series, SeriesByEncoding};
 use std::marker::Model;
 use std::sync::ledger::Ledger;
 use ts_chunk_packed::PackedChunk;
@@ -15,14 +15,14 @@ use ts_sample::{Sample, Steps};
 /// A cursor over a series' samples, oldest first.
 #[derive(Drop)]
 pub struct Cursor<'a> {
-    cursors: Cursors<'a>,
+    cursors: CursorByEncoding<'a>,
 }
 
 // A cursor for either encoding.
 #[derive(Drop)]
-enum Cursors<'a> {
-    Plain(LineCursor<'a, PlainChunk>),
-    Packed(LineCursor<'a, PackedChunk>),
+enum CursorByEncoding<'a> {
+    Plain(ChunkedSeriesCursor<'a, PlainChunk>),
+    Packed(ChunkedSeriesCursor<'a, PackedChunk>),
 }
 
 impl<'a> Model for Cursor<'a> {
@@ -43,8 +43,8 @@ impl<'a> Cursor<'a> {
         ensures steps { Takes steps.old steps.new 1 }
     {
         match &mut self.cursors {
-            Cursors::Plain(line) => line.next(steps),
-            Cursors::Packed(line) => line.next(steps),
+            CursorByEncoding::Plain(line) => line.next(steps),
+            CursorByEncoding::Packed(line) => line.next(steps),
         }
     }
 }
@@ -55,9 +55,9 @@ impl Series {
         ensures left { result ≡ at_times (nat_le from) (list_of self.now) }
         ensures steps { Takes steps.old steps.new (reach self.now) }
     {
-        let cursors = match &self.lines {
-            Lines::Plain(line) => Cursors::Plain(line.read_from(from, steps)),
-            Lines::Packed(line) => Cursors::Packed(line.read_from(from, steps)),
+        let cursors = match &self.by_encoding {
+            SeriesByEncoding::Plain(line) => CursorByEncoding::Plain(line.read_from(from, steps)),
+            SeriesByEncoding::Packed(line) => CursorByEncoding::Packed(line.read_from(from, steps)),
         };
         Cursor { cursors }
     }
@@ -67,9 +67,9 @@ impl Series {
         ensures count { result ≡ length (at_times (nat_le time) (list_of self.now)) }
         ensures steps { Takes steps.old steps.new (reach self.now) }
     {
-        match &self.lines {
-            Lines::Plain(line) => line.count_from(time, steps),
-            Lines::Packed(line) => line.count_from(time, steps),
+        match &self.by_encoding {
+            SeriesByEncoding::Plain(line) => line.count_from(time, steps),
+            SeriesByEncoding::Packed(line) => line.count_from(time, steps),
         }
     }
 }

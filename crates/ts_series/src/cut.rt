@@ -5,13 +5,13 @@ ghost use Rattle.ts_sample.specs.Steps.{Takes};
 ghost use Rattle.ts_series.specs.History.{list_of, reach};
 ghost use Rattle.ts_series.specs.Plan.{IsForIn, Cuts};
 
-use crate::line::Line;
-use crate::line_plan::{Interval, LinePlan, Rows};
+use crate::chunked_series::ChunkedSeries;
+use crate::chunked_series_plan::{ChunkedSeriesPlan, Interval, Rows};
 use std::alloc::AllocError;
 use std::sync::ledger::Ledger;
 use ts_sample::{Chunk, Steps};
 
-impl<C: Chunk> Line<C> {
+impl<C: Chunk> ChunkedSeries<C> {
     // Plans the deletion of the samples from `from` to `to`, in milliseconds, both inclusive. The interval is empty
     // if `from` is above `to`. The retention edge does not move.
     pub(crate) fn cut<L: Ledger>(
@@ -19,7 +19,7 @@ impl<C: Chunk> Line<C> {
         from: u64,
         to: u64,
         steps: &mut Steps<L>,
-    ) -> Result<LinePlan<C>, AllocError>
+    ) -> Result<ChunkedSeriesPlan<C>, AllocError>
         ensures planned { IfOk result (λ plan. IsForIn C.format plan self.now) }
         ensures cut { IfOk result (Cuts from to (length (between from to (list_of self.now)))) }
         ensures steps { Takes steps.old steps.new (3 * reach self.now) }
@@ -28,7 +28,7 @@ impl<C: Chunk> Line<C> {
             .chunks
             .without(self.alloc, from.max(self.edge()), to, steps)?;
         let larger = self.chunks.larger(&change, self.alloc)?;
-        Ok(LinePlan {
+        Ok(ChunkedSeriesPlan {
             cut: Some(Interval { from, to }),
             removed: removed as u64,
             encoding: self.options.encoding,

@@ -3,7 +3,7 @@ ghost use Rattle.std.specs.Prelude.{◌≡◌};
 ghost use Rattle.ts_spec.specs.Sample.{IsAscending};
 ghost use Rattle.ts_spec.specs.State.{edge_of};
 ghost use Rattle.ts_spec.specs.Rules.{raised};
-ghost use Rattle.ts_spec.specs.Mending.{high_with};
+ghost use Rattle.ts_spec.specs.StoredUpdates.{high_after_rows};
 
 use ts_sample::Sample;
 
@@ -37,7 +37,7 @@ pub(crate) fn raise(time: u64, high: Option<u64>) -> Option<u64>
 // The highest time after these samples are written.
 pub(crate) fn high_after(rows: &[Sample], high: Option<u64>) -> Option<u64>
     requires { IsAscending rows.now }
-    ensures { result ≡ high_with rows.now high }
+    ensures { result ≡ high_after_rows rows.now high }
 {
     match rows.last() {
         None => high,

@@ -4,7 +4,7 @@ ghost use Rattle.ts_spec.specs.Sample.{IsAscending};
 ghost use Rattle.ts_sample.specs.Chunk.{IsLimit, HaveLimit, joined};
 ghost use Rattle.ts_series.specs.Stored.{AreChunks};
 
-use crate::planned::begun;
+use crate::chunk_plans::begun;
 use std::alloc::{AllocError, Global};
 use ts_sample::{Chunk, Sample};
 

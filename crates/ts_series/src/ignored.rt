@@ -4,8 +4,8 @@ ghost use Rattle.ts_spec.specs.Ignoring.{is_near, is_close, ignored_after};
 ghost use Rattle.ts_spec.specs.Sample.{last_of};
 ghost use Rattle.ts_series.specs.History.{list_of};
 
-use crate::line::Line;
-use crate::series::{Lines, Series};
+use crate::chunked_series::ChunkedSeries;
+use crate::series::{Series, SeriesByEncoding};
 use ts_sample::{Chunk, Sample, Units};
 use ts_spec::{Ignore, Policy};
 
@@ -16,14 +16,14 @@ impl Series {
     pub fn ignored(&self, time: u64, value: Units) -> Option<u64>
         ensures { result ≡ ignored_after self.now.options (last_of (list_of self.now)) time value }
     {
-        match &self.lines {
-            Lines::Plain(line) => line.ignored(time, value),
-            Lines::Packed(line) => line.ignored(time, value),
+        match &self.by_encoding {
+            SeriesByEncoding::Plain(line) => line.ignored(time, value),
+            SeriesByEncoding::Packed(line) => line.ignored(time, value),
         }
     }
 }
 
-impl<C: Chunk> Line<C> {
+impl<C: Chunk> ChunkedSeries<C> {
     // The time of the last sample, if the series ignores a sample with this time and value.
     fn ignored(&self, time: u64, value: Units) -> Option<u64>
         ensures { result ≡ ignored_after self.now.options (last_of (list_of self.now)) time value }

@@ -9,26 +9,27 @@ ghost use Rattle.ts_series.specs.History.{list_of, low};
 ghost use Rattle.ts_series.specs.Plan.{IsForIn};
 ghost use Rattle.ts_series.specs.Put.{PutAnswers, IsMerged};
 
-use crate::line::Line;
-use crate::line_plan::LinePlan;
+use crate::chunked_series::ChunkedSeries;
+use crate::chunked_series_plan::ChunkedSeriesPlan;
 use crate::plan::PutFault;
 use std::sync::ledger::Ledger;
 use ts_sample::{Chunk, Sample, Steps, Units};
 use ts_spec::{Merge, Policy};
 
-impl<C: Chunk> Line<C> {
+impl<C: Chunk> ChunkedSeries<C> {
     // Plans a write at a time that may have a sample.
-    pub(crate) fn put_late<L: Ledger>(
+    pub(crate) fn plan_late_write<L: Ledger>(
         &self,
         sample: Sample,
         how: Merge,
         limit: u32,
         steps: &mut Steps<L>,
-    ) -> Result<LinePlan<C>, PutFault>
+    ) -> Result<ChunkedSeriesPlan<C>, PutFault>
         requires kept { low self.now ≤ sample.time }
         requires made { sample.made ≡ self.now.born }
         ensures planned { IfOk result (λ plan. IsForIn C.format plan self.now) }
-        ensures answer { PutAnswers (merge how (value_at sample.time (list_of self.now)) sample.value) limit sample.time self.now result }
+        ensures answer { PutAnswers (merge how (value_at sample.time (list_of self.now)) sample.value) limit sample.time
+            self.now result }
         ensures steps { Takes steps.old steps.new (3 * longest self.now.held.pieces) }
     {
         if always_writes(how) && self.chunks.len() < limit as usize {
@@ -36,27 +37,28 @@ impl<C: Chunk> Line<C> {
         }
         match self.chunks.at(sample.time, steps) {
             None => self.added(sample, limit, steps),
-            Some(there) => self.put_over(there.value, sample, how, steps),
+            Some(there) => self.plan_overwrite(there.value, sample, how, steps),
         }
     }
 
     // Plans a write at a time that has a sample with value `old`.
-    fn put_over<L: Ledger>(
+    fn plan_overwrite<L: Ledger>(
         &self,
         old: Units,
         sample: Sample,
         how: Merge,
         steps: &mut Steps<L>,
-    ) -> Result<LinePlan<C>, PutFault>
+    ) -> Result<ChunkedSeriesPlan<C>, PutFault>
         requires there { at sample.time (list_of self.now) ≢ None }
         requires made { sample.made ≡ self.now.born }
         ensures planned { IfOk result (λ plan. IsForIn C.format plan self.now) }
-        ensures answer { (limit : ℕ) → PutAnswers (merge how (Some old) sample.value) limit sample.time self.now result }
+        ensures answer { (limit : ℕ)
+            → PutAnswers (merge how (Some old) sample.value) limit sample.time self.now result }
         ensures steps { Takes steps.old steps.new (longest self.now.held.pieces) }
     {
         let (time, made) = (sample.time, sample.made);
         match merged(how, old, sample.value)? {
-            None => Ok(LinePlan::nothing(self.alloc, self.options.encoding)),
+            None => Ok(ChunkedSeriesPlan::nothing(self.alloc, self.options.encoding)),
             Some(value) => self.written(Sample { time, value, made }, steps),
         }
     }

@@ -1,26 +1,26 @@
 // Replaces an interval's samples with rows. Rules update their destinations this way.
 ghost use Rattle.std.specs.Prelude.{◌≡◌, ◌*◌, nat_lt, nat_le, length, IfOk};
 ghost use Rattle.ts_spec.specs.Sample.{IsAscending, at_times, between, outside, put_all};
-ghost use Rattle.ts_spec.specs.Mending.{high_with};
+ghost use Rattle.ts_spec.specs.StoredUpdates.{high_after_rows};
 ghost use Rattle.ts_sample.specs.Chunk.{joined};
 ghost use Rattle.ts_sample.specs.Steps.{Takes};
 ghost use Rattle.ts_series.specs.Stored.{points, pieces_after, IsReady, HasLimits};
 ghost use Rattle.ts_series.specs.History.{list_of, limit_for, reach};
 ghost use Rattle.ts_series.specs.Plan.{AreWithin, AreMade, IsForIn, after};
-ghost use Rattle.ts_series.specs.Mend.{IsMend, IsRowPast, mended_list};
+ghost use Rattle.ts_series.specs.Mend.{IsUpdateAnswer, IsRowPast, list_after_update};
 
 use crate::change::Change;
+use crate::chunked_series::ChunkedSeries;
+use crate::chunked_series_plan::{ChunkedSeriesPlan, Interval, Rows};
 use crate::chunks::new_limit;
 use crate::edge::{edge_at, high_after};
-use crate::line::Line;
-use crate::line_plan::{Interval, LinePlan, Rows};
 use crate::plan::PutFault;
 use std::alloc::AllocError;
 use std::sync::ledger::Ledger;
-use ts_sample::{Chunk, Sample, Steps, place_of};
+use ts_sample::{Chunk, Sample, Steps, lower_bound};
 
 #[tactic(auto, using(crate::proofs::Reach::within_reach))]
-impl<C: Chunk> Line<C> {
+impl<C: Chunk> ChunkedSeries<C> {
     // Plans to replace the samples from `from` to `to`, in milliseconds, both inclusive, with `rows`, whose times are
     // in the interval. Fails with `Full` if the series then has more than `limit` samples, even if memory runs out
     // too.
@@ -31,21 +31,23 @@ impl<C: Chunk> Line<C> {
         rows: &[Sample],
         limit: u32,
         steps: &mut Steps<L>,
-    ) -> Result<LinePlan<C>, PutFault>
+    ) -> Result<ChunkedSeriesPlan<C>, PutFault>
         requires ascending { IsAscending rows.now }
         requires within { AreWithin from to rows.now }
         requires made { AreMade self.now.born rows.now }
         ensures planned { IfOk result (λ plan. IsForIn C.format plan self.now) }
-        ensures answer { IsMend from to rows.now limit self.now result }
+        ensures answer { IsUpdateAnswer from to rows.now limit self.now result }
         ensures steps { Takes steps.old steps.new (3 * reach self.now) }
         ensures easy { IsRowPast from to rows.now limit self.now → steps.new ≡ steps.old }
     {
         let size = new_limit(self.options.chunk_size);
-        let (mended, removed) = self.chunks.mended(self.alloc, from, to, rows, size, steps);
+        let (updated_list, removed) = self
+            .chunks
+            .updated_list(self.alloc, from, to, rows, size, steps);
         if self.exceeds(limit, from, to, rows, removed, steps) {
             return Err(PutFault::Full);
         }
-        let change = match mended {
+        let change = match updated_list {
             Ok(change) => change,
             Err(fault) => return Err(PutFault::Memory(fault)),
         };
@@ -62,20 +64,22 @@ impl<C: Chunk> Line<C> {
         to: u64,
         rows: &[Sample],
         change: Change<C>,
-    ) -> Result<LinePlan<C>, AllocError>
+    ) -> Result<ChunkedSeriesPlan<C>, AllocError>
         requires ascending { IsAscending rows.now }
         requires made { AreMade self.now.born rows.now }
         requires ready { IsReady C.format self.now.held change }
         requires limits { HasLimits (limit_for self.now.options.chunk_size) self.now.held.limits change }
-        requires list { joined (pieces_after change self.now.held.pieces) ≡ put_all rows.now (outside from to (points self.now.held)) }
+        requires list { joined (pieces_after change self.now.held.pieces)
+            ≡ put_all rows.now (outside from to (points self.now.held)) }
         ensures planned { IfOk result (λ plan. IsForIn C.format plan self.now) }
-        ensures list { IfOk result (λ plan. list_of (after plan self.now) ≡ mended_list from to rows.now self.now) }
-        ensures high { IfOk result (λ plan. (after plan self.now).high ≡ high_with rows.now self.now.high) }
+        ensures list { IfOk result (λ plan. list_of (after plan self.now)
+            ≡ list_after_update from to rows.now self.now) }
+        ensures high { IfOk result (λ plan. (after plan self.now).high ≡ high_after_rows rows.now self.now.high) }
         ensures options { IfOk result (λ plan. (after plan self.now).options ≡ self.now.options) }
     {
         let larger = self.chunks.larger(&change, self.alloc)?;
         let wrote = Rows::of(self.alloc, rows)?;
-        Ok(LinePlan {
+        Ok(ChunkedSeriesPlan {
             cut: Some(Interval { from, to }),
             removed: 0,
             encoding: self.options.encoding,
@@ -100,7 +104,7 @@ impl<C: Chunk> Line<C> {
         requires ascending { IsAscending rows.now }
         requires within { AreWithin from to rows.now }
         requires removed { removed ≡ length (between from to (points self.now.held)) }
-        ensures exceeds { result ≡ nat_lt limit (length (mended_list from to rows.now self.now)) }
+        ensures exceeds { result ≡ nat_lt limit (length (list_after_update from to rows.now self.now)) }
         ensures steps { Takes steps.old steps.new (reach self.now) }
         ensures easy { IsRowPast from to rows.now limit self.now → steps.new ≡ steps.old }
     {
@@ -109,7 +113,7 @@ impl<C: Chunk> Line<C> {
         }
         let edge = edge_at(self.options.retention, high_after(rows, self.high));
         let left = self.count_left(edge, from, to, removed, steps);
-        let written = rows.len() - place_of(rows, edge);
+        let written = rows.len() - lower_bound(rows, edge);
         (limit as usize) < left.saturating_add(written)
     }
 

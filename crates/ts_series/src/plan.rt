@@ -4,7 +4,7 @@ ghost use Rattle.ts_spec.specs.Sample.{first_of};
 ghost use Rattle.ts_spec.specs.declared.series.Encoding.TheVariants.{Compressed, Uncompressed};
 ghost use Rattle.ts_series.specs.FaultNames.{name_of};
 
-use crate::line_plan::LinePlan;
+use crate::chunked_series_plan::ChunkedSeriesPlan;
 use std::alloc::AllocError;
 use std::fmt;
 use std::marker::Model;
@@ -68,14 +68,14 @@ impl PutFault {
 /// A planned change of a series. It owns the memory that it needs, so a commit cannot fail.
 #[derive(Drop)]
 pub struct SeriesPlan {
-    pub(crate) plans: Plans,
+    pub(crate) plans: PlanByEncoding,
 }
 
 // A plan for either encoding.
 #[derive(Drop)]
-pub(crate) enum Plans {
-    Plain(LinePlan<PlainChunk>),
-    Packed(LinePlan<PackedChunk>),
+pub(crate) enum PlanByEncoding {
+    Plain(ChunkedSeriesPlan<PlainChunk>),
+    Packed(ChunkedSeriesPlan<PackedChunk>),
 }
 
 impl Model for SeriesPlan {
@@ -90,21 +90,21 @@ impl Model for SeriesPlan {
 }
 
 impl SeriesPlan {
-    pub(crate) fn plain(plan: LinePlan<PlainChunk>) -> SeriesPlan
+    pub(crate) fn plain(plan: ChunkedSeriesPlan<PlainChunk>) -> SeriesPlan
         requires { plan.encoding ≡ Uncompressed }
         ensures { result ≡ plan }
     {
         SeriesPlan {
-            plans: Plans::Plain(plan),
+            plans: PlanByEncoding::Plain(plan),
         }
     }
 
-    pub(crate) fn packed(plan: LinePlan<PackedChunk>) -> SeriesPlan
+    pub(crate) fn packed(plan: ChunkedSeriesPlan<PackedChunk>) -> SeriesPlan
         requires { plan.encoding ≡ Compressed }
         ensures { result ≡ plan }
     {
         SeriesPlan {
-            plans: Plans::Packed(plan),
+            plans: PlanByEncoding::Packed(plan),
         }
     }
 
@@ -113,8 +113,8 @@ impl SeriesPlan {
         ensures { result ≡ first_of self.now.wrote }
     {
         match &self.plans {
-            Plans::Plain(plan) => plan.wrote(),
-            Plans::Packed(plan) => plan.wrote(),
+            PlanByEncoding::Plain(plan) => plan.wrote(),
+            PlanByEncoding::Packed(plan) => plan.wrote(),
         }
     }
 
@@ -123,8 +123,8 @@ impl SeriesPlan {
         ensures { result ≡ self.now.removed }
     {
         match &self.plans {
-            Plans::Plain(plan) => plan.removed(),
-            Plans::Packed(plan) => plan.removed(),
+            PlanByEncoding::Plain(plan) => plan.removed(),
+            PlanByEncoding::Packed(plan) => plan.removed(),
         }
     }
 }

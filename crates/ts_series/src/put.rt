@@ -9,10 +9,10 @@ ghost use Rattle.ts_series.specs.Plan.{IsForIn};
 ghost use Rattle.ts_series.specs.Put.{met, PutAnswers, IsWrite, Writes, Fits, list_after};
 
 use crate::change::Change;
+use crate::chunked_series::ChunkedSeries;
+use crate::chunked_series_plan::{ChunkedSeriesPlan, Rows};
 use crate::chunks::new_limit;
 use crate::edge::{edge_at, raise};
-use crate::line::Line;
-use crate::line_plan::{LinePlan, Rows};
 use crate::plan::PutFault;
 use std::alloc::AllocError;
 use std::sync::ledger::Ledger;
@@ -20,7 +20,7 @@ use ts_sample::{Chunk, Sample, Steps, Units};
 use ts_spec::Merge;
 
 #[tactic(auto, using(crate::proofs::Reach::within_reach))]
-impl<C: Chunk> Line<C> {
+impl<C: Chunk> ChunkedSeries<C> {
     // Plans a write. If the series has a sample at `time`, merges the two by `how`. Otherwise adds a sample, which
     // fails with `Full` if the series then has more than `limit` samples.
     pub(crate) fn put<L: Ledger>(
@@ -30,12 +30,13 @@ impl<C: Chunk> Line<C> {
         how: Merge,
         limit: u32,
         steps: &mut Steps<L>,
-    ) -> Result<LinePlan<C>, PutFault>
+    ) -> Result<ChunkedSeriesPlan<C>, PutFault>
         requires { time ≤ MAX_TIME }
         ensures planned { IfOk result (λ plan. IsForIn C.format plan self.now) }
         ensures answer { PutAnswers (met how time value self.now) limit time self.now result }
         ensures steps { Takes steps.old steps.new (3 * reach self.now) }
-        ensures easy { length (list_of self.now) + reach self.now < limit → IsPast (last_of (list_of self.now)) time → steps.new ≡ steps.old }
+        ensures easy { length (list_of self.now) + reach self.now < limit → IsPast (last_of (list_of self.now)) time
+            → steps.new ≡ steps.old }
     {
         if time < self.edge() {
             return Err(PutFault::TooOld);
@@ -43,7 +44,7 @@ impl<C: Chunk> Line<C> {
         let made = self.born;
         let sample = Sample { time, value, made };
         if self.is_late(time) {
-            return self.put_late(sample, how, limit, steps);
+            return self.plan_late_write(sample, how, limit, steps);
         }
         self.added(sample, limit, steps)
     }
@@ -62,14 +63,15 @@ impl<C: Chunk> Line<C> {
         sample: Sample,
         limit: u32,
         steps: &mut Steps<L>,
-    ) -> Result<LinePlan<C>, PutFault>
+    ) -> Result<ChunkedSeriesPlan<C>, PutFault>
         requires absent { at sample.time (list_of self.now) ≡ None }
         requires kept { low self.now ≤ sample.time }
         requires made { sample.made ≡ self.now.born }
         ensures planned { IfOk result (λ plan. IsForIn C.format plan self.now) }
         ensures answer { IsWrite limit sample self.now result }
         ensures steps { Takes steps.old steps.new (2 * longest self.now.held.pieces) }
-        ensures easy { length (points self.now.held) < limit → IsPast (last_of (points self.now.held)) sample.time → steps.new ≡ steps.old }
+        ensures easy { length (points self.now.held) < limit → IsPast (last_of (points self.now.held)) sample.time
+            → steps.new ≡ steps.old }
     {
         if self.is_full(sample, limit, steps) {
             return Err(PutFault::Full);
@@ -98,7 +100,7 @@ impl<C: Chunk> Line<C> {
         &self,
         sample: Sample,
         steps: &mut Steps<L>,
-    ) -> Result<LinePlan<C>, PutFault>
+    ) -> Result<ChunkedSeriesPlan<C>, PutFault>
         requires made { sample.made ≡ self.now.born }
         ensures planned { IfOk result (λ plan. IsForIn C.format plan self.now) }
         ensures answer { (limit : ℕ) → Fits limit sample self.now → IsWrite limit sample self.now result }
@@ -115,16 +117,16 @@ impl<C: Chunk> Line<C> {
         &self,
         sample: Sample,
         steps: &mut Steps<L>,
-    ) -> Result<LinePlan<C>, AllocError>
+    ) -> Result<ChunkedSeriesPlan<C>, AllocError>
         requires made { sample.made ≡ self.now.born }
         ensures planned { IfOk result (λ plan. IsForIn C.format plan self.now) }
         ensures writes { IfOk result (Writes sample) }
         ensures steps { Takes steps.old steps.new (longest self.now.held.pieces) }
         ensures easy { IsPast (last_of (points self.now.held)) sample.time → steps.new ≡ steps.old }
     {
-        let change = self.put_change(&sample, steps)?;
+        let change = self.change_for_write(&sample, steps)?;
         let larger = self.chunks.larger(&change, self.alloc)?;
-        Ok(LinePlan {
+        Ok(ChunkedSeriesPlan {
             cut: None,
             removed: 0,
             encoding: self.options.encoding,
@@ -136,14 +138,15 @@ impl<C: Chunk> Line<C> {
     }
 
     // The change of the chunks that writes a sample.
-    fn put_change<L: Ledger>(
+    fn change_for_write<L: Ledger>(
         &self,
         sample: &Sample,
         steps: &mut Steps<L>,
     ) -> Result<Change<C>, AllocError>
         ensures ready { IfOk result (λ c. IsReady C.format self.now.held c) }
         ensures limits { IfOk result (λ c. HasLimits (limit_for self.now.options.chunk_size) self.now.held.limits c) }
-        ensures list { IfOk result (λ c. joined (pieces_after c self.now.held.pieces) ≡ put sample.now (points self.now.held)) }
+        ensures list { IfOk result (λ c. joined (pieces_after c self.now.held.pieces)
+            ≡ put sample.now (points self.now.held)) }
         ensures steps { Takes steps.old steps.new (longest self.now.held.pieces) }
         ensures easy { IsPast (last_of (points self.now.held)) sample.now.time → steps.new ≡ steps.old }
     {

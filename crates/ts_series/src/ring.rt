@@ -19,30 +19,31 @@ pub(crate) fn replace_between<T: Drop>(
     ensures items { ring.new.items ≡ replaced start end items.items ring.old.items }
     ensures capacity { deque_capacity ring.old ≤ deque_capacity ring.new }
 {
-    make_places(ring, start, end, &mut items);
-    put_in_place(ring, start, items);
+    resize_gap(ring, start, end, &mut items);
+    overwrite_items(ring, start, items);
 }
 
 // Makes the gap `start..end` as long as `items`. If it is too short, moves the last items into the ring behind it.
-fn make_places<T: Drop>(ring: &mut VecDeque<T>, start: usize, end: usize, items: &mut Vec<T>)
+fn resize_gap<T: Drop>(ring: &mut VecDeque<T>, start: usize, end: usize, items: &mut Vec<T>)
     requires ordered { start ≤ end }
     requires within { end ≤ length ring.old.items }
     requires room { length (replaced start end items.old.items ring.old.items) ≤ deque_capacity ring.old }
     ensures within { start + length items.new.items ≤ length ring.new.items }
-    ensures left { replaced start (start + length items.new.items) items.new.items ring.new.items ≡ replaced start end items.old.items ring.old.items }
+    ensures left { replaced start (start + length items.new.items) items.new.items ring.new.items
+        ≡ replaced start end items.old.items ring.old.items }
     ensures capacity { deque_capacity ring.old ≤ deque_capacity ring.new }
 {
     let (places, wanted) = (end - start, items.len());
     if places < wanted {
-        return put_between(ring, end, items, places);
+        return insert_before(ring, end, items, places);
     }
     if wanted < places {
-        take_out(ring, start + wanted, end);
+        remove_interval(ring, start + wanted, end);
     }
 }
 
 // Moves the last of `items` into the ring at index `place`, until `left` of them remain.
-fn put_between<T: Drop>(ring: &mut VecDeque<T>, place: usize, items: &mut Vec<T>, left: usize)
+fn insert_before<T: Drop>(ring: &mut VecDeque<T>, place: usize, items: &mut Vec<T>, left: usize)
     requires within { place ≤ length ring.old.items }
     requires enough { left ≤ length items.old.items }
     requires room { length ring.old.items + length items.old.items ≤ deque_capacity ring.old + left }
@@ -67,7 +68,8 @@ fn insert_last<T: Drop>(ring: &mut VecDeque<T>, place: usize, items: &mut Vec<T>
     requires within { place ≤ length ring.old.items }
     requires some { 0 < length items.old.items }
     requires room { length ring.old.items < deque_capacity ring.old }
-    ensures ring { ring.new.items ≡ replaced place place (drop (length items.old.items - 1) items.old.items) ring.old.items }
+    ensures ring { ring.new.items
+        ≡ replaced place place (drop (length items.old.items - 1) items.old.items) ring.old.items }
     ensures items { items.new.items ≡ take (length items.old.items - 1) items.old.items }
     ensures capacity { deque_capacity ring.old ≤ deque_capacity ring.new }
 {
@@ -78,7 +80,7 @@ fn insert_last<T: Drop>(ring: &mut VecDeque<T>, place: usize, items: &mut Vec<T>
 }
 
 // Removes the items `start..end`.
-fn take_out<T: Drop>(ring: &mut VecDeque<T>, start: usize, end: usize)
+fn remove_interval<T: Drop>(ring: &mut VecDeque<T>, start: usize, end: usize)
     requires ordered { start ≤ end }
     requires within { end ≤ length ring.old.items }
     ensures items { ring.new.items ≡ replaced start end [] ring.old.items }
@@ -96,7 +98,7 @@ fn take_out<T: Drop>(ring: &mut VecDeque<T>, start: usize, end: usize)
 }
 
 // Overwrites the items from index `start` on with `items`. No other item moves.
-fn put_in_place<T: Drop>(ring: &mut VecDeque<T>, start: usize, mut items: Vec<T>)
+fn overwrite_items<T: Drop>(ring: &mut VecDeque<T>, start: usize, mut items: Vec<T>)
     requires within { start + length items.items ≤ length ring.old.items }
     ensures items { ring.new.items ≡ replaced start (start + length items.items) items.items ring.old.items }
     ensures capacity { deque_capacity ring.new ≡ deque_capacity ring.old }

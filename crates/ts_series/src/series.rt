@@ -1,13 +1,13 @@
 // The public type of a series.
 ghost use Rattle.std.specs.Prelude.{◌≡◌, ◌<◌, ◌+◌, ◌-◌, ◌^◌, [], None};
-ghost use Rattle.ts_spec.specs.Mending.{high_with};
+ghost use Rattle.ts_spec.specs.StoredUpdates.{high_after_rows};
 ghost use Rattle.ts_spec.specs.Sample.{IsAscending, last_of};
 ghost use Rattle.ts_spec.specs.State.{edge_of};
 ghost use Rattle.ts_series.specs.History.{list_of, low, IsKept, KeepsLimits, KeepsReach};
 ghost use Rattle.ts_series.specs.Plan.{after, IsFor};
 
-use crate::line::Line;
-use crate::plan::{Plans, SeriesPlan};
+use crate::chunked_series::ChunkedSeries;
+use crate::plan::{PlanByEncoding, SeriesPlan};
 use std::alloc::Global;
 use std::marker::Model;
 use ts_chunk_packed::PackedChunk;
@@ -18,14 +18,14 @@ use ts_spec::{Encoding, Options, Policy};
 /// A time series: its samples in order of time, and its options.
 #[derive(Drop)]
 pub struct Series {
-    pub(crate) lines: Lines,
+    pub(crate) by_encoding: SeriesByEncoding,
 }
 
 // A series of either encoding.
 #[derive(Drop)]
-pub(crate) enum Lines {
-    Plain(Line<PlainChunk>),
-    Packed(Line<PackedChunk>),
+pub(crate) enum SeriesByEncoding {
+    Plain(ChunkedSeries<PlainChunk>),
+    Packed(ChunkedSeries<PackedChunk>),
 }
 
 impl Model for Series {
@@ -34,9 +34,9 @@ impl Model for Series {
 
     ghost Value = { History };
 
-    ghost view = { λ s. history_in s.lines };
+    ghost view = { λ s. history_in s.by_encoding };
 
-    ghost invariant = { λ s. HasEncoding s.lines };
+    ghost invariant = { λ s. HasEncoding s.by_encoding };
 }
 
 impl Series {
@@ -48,20 +48,20 @@ impl Series {
         ensures born { result.born ≡ 0 }
         ensures kept { IsKept result }
     {
-        let lines = match options.encoding {
-            Encoding::Uncompressed => Lines::Plain(Line::new(alloc, options)),
-            Encoding::Compressed => Lines::Packed(Line::new(alloc, options)),
+        let by_encoding = match options.encoding {
+            Encoding::Uncompressed => SeriesByEncoding::Plain(ChunkedSeries::new(alloc, options)),
+            Encoding::Compressed => SeriesByEncoding::Packed(ChunkedSeries::new(alloc, options)),
         };
-        Series { lines }
+        Series { by_encoding }
     }
 
     /// The series' options.
     pub fn options(&self) -> Options
         ensures { result ≡ self.now.options }
     {
-        match &self.lines {
-            Lines::Plain(line) => line.options(),
-            Lines::Packed(line) => line.options(),
+        match &self.by_encoding {
+            SeriesByEncoding::Plain(line) => line.options(),
+            SeriesByEncoding::Packed(line) => line.options(),
         }
     }
 
@@ -69,9 +69,9 @@ impl Series {
     pub fn policy(&self) -> Policy
         ensures { result ≡ self.now.options.policy }
     {
-        match &self.lines {
-            Lines::Plain(line) => line.policy(),
-            Lines::Packed(line) => line.policy(),
+        match &self.by_encoding {
+            SeriesByEncoding::Plain(line) => line.policy(),
+            SeriesByEncoding::Packed(line) => line.policy(),
         }
     }
 
@@ -79,9 +79,9 @@ impl Series {
     pub fn high(&self) -> Option<u64>
         ensures { result ≡ self.now.high }
     {
-        match &self.lines {
-            Lines::Plain(line) => line.high(),
-            Lines::Packed(line) => line.high(),
+        match &self.by_encoding {
+            SeriesByEncoding::Plain(line) => line.high(),
+            SeriesByEncoding::Packed(line) => line.high(),
         }
     }
 
@@ -89,9 +89,9 @@ impl Series {
     pub fn born(&self) -> u32
         ensures { result ≡ self.now.born }
     {
-        match &self.lines {
-            Lines::Plain(line) => line.born(),
-            Lines::Packed(line) => line.born(),
+        match &self.by_encoding {
+            SeriesByEncoding::Plain(line) => line.born(),
+            SeriesByEncoding::Packed(line) => line.born(),
         }
     }
 
@@ -99,20 +99,20 @@ impl Series {
     pub fn edge(&self) -> u64
         ensures { result ≡ low self.now }
     {
-        match &self.lines {
-            Lines::Plain(line) => line.edge(),
-            Lines::Packed(line) => line.edge(),
+        match &self.by_encoding {
+            SeriesByEncoding::Plain(line) => line.edge(),
+            SeriesByEncoding::Packed(line) => line.edge(),
         }
     }
 
     /// The retention edge after writing `rows`, in milliseconds. The rows are in ascending time.
     pub fn edge_with(&self, rows: &[Sample]) -> u64
         requires { IsAscending rows.now }
-        ensures { result ≡ edge_of self.now.options.retention (high_with rows.now self.now.high) }
+        ensures { result ≡ edge_of self.now.options.retention (high_after_rows rows.now self.now.high) }
     {
-        match &self.lines {
-            Lines::Plain(line) => line.edge_with(rows),
-            Lines::Packed(line) => line.edge_with(rows),
+        match &self.by_encoding {
+            SeriesByEncoding::Plain(line) => line.edge_with(rows),
+            SeriesByEncoding::Packed(line) => line.edge_with(rows),
         }
     }
 
@@ -120,9 +120,9 @@ impl Series {
     pub fn last(&self) -> Option<Sample>
         ensures { result ≡ last_of (list_of self.now) }
     {
-        match &self.lines {
-            Lines::Plain(line) => line.last(),
-            Lines::Packed(line) => line.last(),
+        match &self.by_encoding {
+            SeriesByEncoding::Plain(line) => line.last(),
+            SeriesByEncoding::Packed(line) => line.last(),
         }
     }
 
@@ -134,14 +134,14 @@ impl Series {
         ensures limits { KeepsLimits self.old self.new }
         ensures reach { KeepsReach self.old self.new }
     {
-        match &mut self.lines {
-            Lines::Plain(line) => {
-                if let Plans::Plain(plan) = plan.plans {
+        match &mut self.by_encoding {
+            SeriesByEncoding::Plain(line) => {
+                if let PlanByEncoding::Plain(plan) = plan.plans {
                     line.commit(plan);
                 }
             }
-            Lines::Packed(line) => {
-                if let Plans::Packed(plan) = plan.plans {
+            SeriesByEncoding::Packed(line) => {
+                if let PlanByEncoding::Packed(plan) = plan.plans {
                     line.commit(plan);
                 }
             }
@@ -154,9 +154,9 @@ impl Series {
         ensures raised { self.new ≡ record self.old { born = self.old.born + 1 } }
         ensures kept { IsKept self.new }
     {
-        match &mut self.lines {
-            Lines::Plain(line) => line.raise_born(),
-            Lines::Packed(line) => line.raise_born(),
+        match &mut self.by_encoding {
+            SeriesByEncoding::Plain(line) => line.raise_born(),
+            SeriesByEncoding::Packed(line) => line.raise_born(),
         }
     }
 }

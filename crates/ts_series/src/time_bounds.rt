@@ -6,8 +6,8 @@ ghost use Rattle.ts_series.specs.Stored.{points};
 ghost use Rattle.ts_series.specs.History.{list_of};
 ghost use Rattle.ts_series.specs.Seams.{IsSeam};
 
+use crate::chunked_series::ChunkedSeries;
 use crate::chunks::Chunks;
-use crate::line::Line;
 use ts_sample::Chunk;
 
 impl<C: Chunk> Chunks<C> {
@@ -23,7 +23,7 @@ impl<C: Chunk> Chunks<C> {
     }
 
     // An end time for a scan from `from` that yields at least `count` samples, or `to`. Decodes nothing.
-    pub(crate) fn time_for(&self, from: u64, to: u64, count: u64) -> u64
+    pub(crate) fn end_for_count(&self, from: u64, to: u64, count: u64) -> u64
         requires { from ≤ to }
         ensures within { (from ≤ result) × (result ≤ to) }
         ensures reach { (result ≡ to) ⊎ (count ≤ length (between from result (points self.now))) }
@@ -55,7 +55,7 @@ impl<C: Chunk> Chunks<C> {
     }
 
     // A start time for a scan up to `to` that yields at least `count` samples, or `from`. Decodes nothing.
-    pub(crate) fn time_from(&self, from: u64, to: u64, count: u64) -> u64
+    pub(crate) fn start_for_count(&self, from: u64, to: u64, count: u64) -> u64
         requires { from ≤ to }
         ensures within { (from ≤ result) × (result ≤ to) }
         ensures reach { (result ≡ from) ⊎ (count ≤ length (between result to (points self.now))) }
@@ -79,10 +79,10 @@ impl<C: Chunk> Chunks<C> {
     }
 }
 
-impl<C: Chunk> Line<C> {
+impl<C: Chunk> ChunkedSeries<C> {
     // An end time, in milliseconds, for a scan from `from` that yields at least `count` samples, or `to`. Decodes
     // nothing.
-    pub(crate) fn time_for(&self, from: u64, to: u64, count: u64) -> u64
+    pub(crate) fn end_for_count(&self, from: u64, to: u64, count: u64) -> u64
         requires { from ≤ to }
         ensures within { (from ≤ result) × (result ≤ to) }
         ensures reach { (result ≡ to) ⊎ (count ≤ length (between from result (list_of self.now))) }
@@ -92,12 +92,12 @@ impl<C: Chunk> Line<C> {
         if to < start {
             return to;
         }
-        self.chunks.time_for(start, to, count)
+        self.chunks.end_for_count(start, to, count)
     }
 
     // A start time, in milliseconds, for a scan up to `to` that yields at least `count` samples, or `from`. Decodes
     // nothing.
-    pub(crate) fn time_from(&self, from: u64, to: u64, count: u64) -> u64
+    pub(crate) fn start_for_count(&self, from: u64, to: u64, count: u64) -> u64
         requires { from ≤ to }
         ensures within { (from ≤ result) × (result ≤ to) }
         ensures reach { (result ≡ from) ⊎ (count ≤ length (between result to (list_of self.now))) }
@@ -107,7 +107,7 @@ impl<C: Chunk> Line<C> {
         if to < start {
             return from;
         }
-        let time = self.chunks.time_from(start, to, count);
+        let time = self.chunks.start_for_count(start, to, count);
         if time == start {
             return from;
         }

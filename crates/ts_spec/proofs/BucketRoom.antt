@@ -9,11 +9,11 @@ use Rattle.ts_spec.specs.Keyed.{get}
 use Rattle.ts_spec.specs.State.{Rule, Record, State, link_to}
 use Rattle.ts_spec.specs.Rules.{open_of, is_append}
 use Rattle.ts_spec.specs.Valid.{EachRule, IsUpTo, IsSoundRule}
-use Rattle.ts_spec.specs.Kept.{KeptRule, Kept, Keeping, summary_at, kept_rule, kept_record}
-use Rattle.ts_spec.specs.Stands.{StandsFor, HaveDurations, AllHaveDurations}
+use Rattle.ts_spec.specs.StoredSeries.{StoredRule, StoredSeries, StoredKeys, summary_at, stored_rule, stored_record}
+use Rattle.ts_spec.specs.Represents.{RepresentsState, HaveDurations, AllHaveDurations}
 use Rattle.ts_spec.proofs.Samples.{IsBefore, each_before, at-times, ascending-times}
 use Rattle.ts_spec.proofs.Linked.{From, mapped-from}
-use Rattle.ts_spec.proofs.KeptMaps.{get-kept}
+use Rattle.ts_spec.proofs.StoredMaps.{get-kept}
 use Rattle.ts_spec.proofs.DeletedRules.{count-summary}
 use Rattle.ts_spec.proofs.BucketSize.{IsIn, members-in, same-bucket, few-between}
 
@@ -45,9 +45,9 @@ counted-before d r t u p s h x = go r.top refl d.high refl
 -- If a sample is appended to the open bucket of a rule, the running summary counts fewer samples than the bucket has
 -- milliseconds.
 pub running-room : (d : Record) (r : Rule) (t : ℕ) → IsSoundRule d r → 1 ≤ r.grid.duration → is_append t d.high ≡ true → open_of r ≡ Some (start r.grid t) →
-    (kept_rule r).running.count < r.grid.duration
+    (stored_rule r).running.count < r.grid.duration
 running-room d r t s h fresh here =
-    let count : (kept_rule r).running.count ≡ length (members r.grid (start r.grid t) r.seen) =
+    let count : (stored_rule r).running.count ≡ length (members r.grid (start r.grid t) r.seen) =
     ap (λ (o : Option ℕ). (summary_at r o).count) here ∙ count-summary (members r.grid (start r.grid t) r.seen) in
     let room : length (members r.grid (start r.grid t) r.seen) < r.grid.duration =
     members-room r.grid t r.seen h s.ascending
@@ -60,20 +60,20 @@ running-room d r t s h fresh here =
     passed u p false e = absurd (cc e)
 
 -- each of these rules can count one more sample at this time, if that is in its open bucket
-abbrev pub HaveRoom : ℕ → List KeptRule → Type 0
-HaveRoom t [] = ⊤
-HaveRoom t (q ∷ qs) = (q.current ≡ Some (start q.grid t) → q.running.count < q.grid.duration) × HaveRoom t qs
+abbrev pub CanCountOneMore : ℕ → List StoredRule → Type 0
+CanCountOneMore t [] = ⊤
+CanCountOneMore t (q ∷ qs) = (q.current ≡ Some (start q.grid t) → q.running.count < q.grid.duration) × CanCountOneMore t qs
 
-rules-room : (d : Record) (t : ℕ) (rs : List Rule) → is_append t d.high ≡ true → HaveDurations (map kept_rule rs) → EachRule (IsSoundRule d) rs → HaveRoom t (map kept_rule rs)
+rules-room : (d : Record) (t : ℕ) (rs : List Rule) → is_append t d.high ≡ true → HaveDurations (map stored_rule rs) → EachRule (IsSoundRule d) rs → CanCountOneMore t (map stored_rule rs)
 rules-room d t [] fresh h x = tt
 rules-room d t (r ∷ rs) fresh h x = (λ here. running-room d r t x.0 h.0 fresh here, rules-room d t rs fresh h.1 x.1)
 
 -- The same for each stored rule, and a sample that is appended.
-pub stands-room : (limits : Limits) (keys : Keeping) (m : State) (k : Key) (c : Kept) (t : ℕ) → StandsFor limits keys m → AllHaveDurations keys → get k keys ≡ Some c → is_append t c.high ≡ true →
-    HaveRoom t c.rules
+pub stands-room : (limits : Limits) (keys : StoredKeys) (m : State) (k : Key) (c : StoredSeries) (t : ℕ) → RepresentsState limits keys m → AllHaveDurations keys → get k keys ≡ Some c → is_append t c.high ≡ true →
+    CanCountOneMore t c.rules
 stands-room limits keys m k c t s h x fresh =
-    let from : From (kept_record (link_to m k)) (get k m) c = mapped-from (kept_record (link_to m k)) (get k m) c (sym (get-kept m k) ∙ ap (get k) (sym s.kept) ∙ x) in
-    let same_rules : map kept_rule from.value.rules ≡ c.rules = ap (λ (q : Kept). q.rules) from.gives in
-    let same_high : from.value.high ≡ c.high = ap (λ (q : Kept). q.high) from.gives in
-    subst (HaveRoom t) same_rules
+    let from : From (stored_record (link_to m k)) (get k m) c = mapped-from (stored_record (link_to m k)) (get k m) c (sym (get-kept m k) ∙ ap (get k) (sym s.kept) ∙ x) in
+    let same_rules : map stored_rule from.value.rules ≡ c.rules = ap (λ (q : StoredSeries). q.rules) from.gives in
+    let same_high : from.value.high ≡ c.high = ap (λ (q : StoredSeries). q.high) from.gives in
+    subst (CanCountOneMore t) same_rules
     (rules-room from.value t from.value.rules (ap (is_append t) same_high ∙ fresh) (subst HaveDurations (sym same_rules) (h k c x)) (s.valid.sound k from.value from.is).rules)

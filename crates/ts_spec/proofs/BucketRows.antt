@@ -7,7 +7,7 @@ use Rattle.ts_spec.specs.Bucket.{members}
 use Rattle.ts_spec.specs.Aggregate.{summary, aggregate}
 use Rattle.ts_spec.specs.State.{Rule}
 use Rattle.ts_spec.specs.Rules.{is_past, has_any, open_of}
-use Rattle.ts_spec.specs.Mending.{bucket_row}
+use Rattle.ts_spec.specs.StoredUpdates.{bucket_row}
 use Rattle.ts_spec.proofs.ShownAfter.{tells}
 use Rattle.ts_spec.proofs.DeletedRules.{at-row, at-other_row}
 

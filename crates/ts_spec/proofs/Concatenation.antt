@@ -2,8 +2,8 @@
 use Rattle.std.proofs.Common.{◌≡◌, ℕ, zero, suc, ◌+◌, ◌-◌, Bool, true, false, nat_le, nat_lt, ◌==◌, if◌then◌else◌, List, [], ◌∷◌, ◌++◌, length, refl, sym, ap, ◌∙◌, subst, arith}
 use Rattle.ts_spec.specs.declared.wire.Kind.TheVariants.{Crlf, Dollar, TooLarge}
 use Rattle.ts_spec.specs.declared.wire.WireLimits.{WireLimits}
-use Rattle.ts_spec.specs.Wire.{Request, Stream, Then, Ended, Inside, Broken, Partial, Mode, Start, Text, Count, CountFeed, Mark, Length, LengthFeed, Body, WordReturn, WordFeed, Move, Goto, Whole, Fault, LineMove, Goes, Returns, Wrong, STAR, DOLLAR, RETURN, FEED, want, on_text, on_count, on_length, on_body, after_count, after_length, after_word, line_step, words_of_line, move, at_end, after_move, then_request, read_on, ending_of}
-use Rattle.ts_spec.specs.Fronts.{then_on}
+use Rattle.ts_spec.specs.Wire.{Request, Stream, Then, Ended, Inside, Broken, Partial, Mode, Start, Text, Count, CountFeed, Mark, Length, LengthFeed, Body, WordReturn, WordFeed, Move, Goto, Whole, Fault, LineMove, Goes, Returns, Wrong, STAR, DOLLAR, RETURN, FEED, expect_byte, on_text, on_count, on_length, on_body, after_count, after_length, after_word, line_step, words_of_line, move, at_end, after_move, then_request, read_on, ending_of}
+use Rattle.ts_spec.specs.StreamPrefixes.{continued_by}
 
 -- no byte leads back before a request but one that makes it whole
 abbrev IsMid : Mode → Type 0
@@ -97,7 +97,7 @@ IsEnded (Broken kind place) = ⊥
 
 -- what the bytes make, and then others
 abbrev Concatenates : Stream → Stream → (ℕ → Stream) → ℕ → Type 0
-Concatenates stream longer rest n = ending_of stream ≡ Ended → longer ≡ then_on stream (rest n)
+Concatenates stream longer rest n = ending_of stream ≡ Ended → longer ≡ continued_by stream (rest n)
 
 ends_here : (limits : WireLimits) (mode : Mode) (place begin : ℕ) (more : List ℕ) → Begins mode place begin
     → Concatenates (at_end mode begin) (read_on limits place begin mode more) (λ n. read_on limits (place + n) (place + n) Start more) 0
@@ -114,14 +114,14 @@ ends_here limits (Body so_far n bytes) place begin more b = λ e. absurd (subst 
 ends_here limits (WordReturn so_far bytes) place begin more b = λ e. absurd (subst IsEnded (sym e) tt)
 ends_here limits (WordFeed so_far bytes) place begin more b = λ e. absurd (subst IsEnded (sym e) tt)
 
-one_more : (request : Request) (place : ℕ) (stream longer rest : Stream) → (ending_of stream ≡ Ended → longer ≡ then_on stream rest)
-    → ending_of (then_request request place stream) ≡ Ended → then_request request place longer ≡ then_on (then_request request place stream) rest
+one_more : (request : Request) (place : ℕ) (stream longer rest : Stream) → (ending_of stream ≡ Ended → longer ≡ continued_by stream rest)
+    → ending_of (then_request request place stream) ≡ Ended → then_request request place longer ≡ continued_by (then_request request place stream) rest
 one_more [] place stream longer rest h e = h e
 one_more (word ∷ words) place stream longer rest h e = ap (λ longer. Then (word ∷ words) place longer) (h e)
 
 moved : (m : Move) (place begin : ℕ) (on longer : ℕ → Mode → Stream) (rest : Stream) → LeadsOn m
-    → ((from : ℕ) (next : Mode) → Begins next (place + 1) from → ending_of (on from next) ≡ Ended → longer from next ≡ then_on (on from next) rest)
-    → ending_of (after_move m place begin on) ≡ Ended → after_move m place begin longer ≡ then_on (after_move m place begin on) rest
+    → ((from : ℕ) (next : Mode) → Begins next (place + 1) from → ending_of (on from next) ≡ Ended → longer from next ≡ continued_by (on from next) rest)
+    → ending_of (after_move m place begin on) ≡ Ended → after_move m place begin longer ≡ continued_by (after_move m place begin on) rest
 moved (Goto next) place begin on longer rest l h e = h begin next (mid_begins next (place + 1) begin l) e
 moved (Whole request) place begin on longer rest l h e =
     one_more request (place + 1) (on (place + 1) Start) (longer (place + 1) Start) rest (h (place + 1) Start refl) e
@@ -129,7 +129,7 @@ moved (Fault kind) place begin on longer rest l h e = refl
 
 pub concatenated : (limits : WireLimits) (place begin : ℕ) (mode : Mode) (bytes more : List ℕ) → Begins mode place begin
     → ending_of (read_on limits place begin mode bytes) ≡ Ended
-    → read_on limits place begin mode (bytes ++ more) ≡ then_on (read_on limits place begin mode bytes) (read_on limits (place + length bytes) (place + length bytes) Start more)
+    → read_on limits place begin mode (bytes ++ more) ≡ continued_by (read_on limits place begin mode bytes) (read_on limits (place + length bytes) (place + length bytes) Start more)
 unfolding read_on
 concatenated limits place begin mode [] more b e = ends_here limits mode place begin more b e
 concatenated limits place begin mode (byte ∷ bytes) more b e =
@@ -137,5 +137,5 @@ concatenated limits place begin mode (byte ∷ bytes) more b e =
     moved (move limits mode byte) place begin (λ from next. read_on limits (place + 1) from next bytes) (λ from next. read_on limits (place + 1) from next (bytes ++ more))
     (read_on limits (place + suc (length bytes)) (place + suc (length bytes)) Start more) (leads_on limits mode byte)
     (λ from next b e. concatenated limits (place + 1) from next bytes more b e
-    ∙ ap (λ after. then_on (read_on limits (place + 1) from next bytes) (read_on limits after after Start more)) there)
+    ∙ ap (λ after. continued_by (read_on limits (place + 1) from next bytes) (read_on limits after after Start more)) there)
     e

@@ -5,7 +5,7 @@ use Rattle.std.proofs.lemmas.Bool.{false≢true}
 use Rattle.ts_spec.specs.Sample.{Point, IsAscending, at, at_times, between, outside, is_within, put}
 use Rattle.ts_spec.specs.Bucket.{start}
 use Rattle.ts_spec.specs.State.{Rule, Record}
-use Rattle.ts_spec.specs.Rules.{is_append, is_eligible, taken_anew, touched, counted_samples, sample_for, meets}
+use Rattle.ts_spec.specs.Rules.{is_append, is_eligible, eligible_in, touched, counted_samples, sample_for, meets}
 use Rattle.ts_spec.specs.Valid.{IsUpTo, IsSoundRule, IsSound}
 use Rattle.ts_spec.specs.CountsAll.{CountsAll}
 use Rattle.ts_spec.proofs.Samples.{at-time, at-times, at-append, at-put, at-put_all, at-filter, passing, ascending-times, ascending-put, ascending-filter, ascending-same}
@@ -19,7 +19,7 @@ or-none (Some p) = refl
 at-touched : (test : ℕ → Bool) (plain old : List Point) (r : Rule) (t : ℕ) → IsAscending plain → IsAscending old → r.seen ≡ filter (is_eligible r) old →
     (test (start r.grid t) ≡ false → at t old ≡ at t plain) → at t (touched test plain r) ≡ passing (is_eligible r) (at t plain)
 at-touched test plain old r t h k e same =
-    at-put_all t (taken_anew test plain r) (at_times (λ u. not (test (start r.grid u))) r.seen)
+    at-put_all t (eligible_in test plain r) (at_times (λ u. not (test (start r.grid u))) r.seen)
     ∙ ap (λ (x : Option Point). option_or x (at t (at_times (λ u. not (test (start r.grid u))) r.seen)))
     (at-filter t (is_eligible r) (at_times (λ u. test (start r.grid u)) plain) (ascending-times (λ u. test (start r.grid u)) plain h) ∙ ap (passing (is_eligible r)) (at-times t (λ u. test (start r.grid u)) plain))
     ∙ ap (option_or (passing (is_eligible r) (if test (start r.grid t) then at t plain else None)))

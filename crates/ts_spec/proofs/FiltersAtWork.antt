@@ -1,13 +1,13 @@
 -- Worked examples: parsing filters.
 use Rattle.std.specs.Prelude.{◌≡◌, refl, [], ◌∷◌, codes, Ok, Err}
-use Rattle.ts_spec.specs.Filter.{Among, NotAmong, Absent, Present}
+use Rattle.ts_spec.specs.Filter.{OneOf, NoneOf, Absent, Present}
 use Rattle.ts_spec.specs.FilterText.{filter_of, NoOperator, EmptyLabel, EmptyList}
 
-pub one_value : filter_of (codes "area=x") ≡ Ok (Among (codes "area") (codes "x" ∷ []))
+pub one_value : filter_of (codes "area=x") ≡ Ok (OneOf (codes "area") (codes "x" ∷ []))
 unfolding filter_of
 one_value = refl
 
-pub several_values : filter_of (codes "area!=(x,y z)") ≡ Ok (NotAmong (codes "area") (codes "x" ∷ codes "y z" ∷ []))
+pub several_values : filter_of (codes "area!=(x,y z)") ≡ Ok (NoneOf (codes "area") (codes "x" ∷ codes "y z" ∷ []))
 unfolding filter_of
 several_values = refl
 
@@ -19,11 +19,11 @@ pub any_value : filter_of (codes "area!=") ≡ Ok (Present (codes "area"))
 unfolding filter_of
 any_value = refl
 
-pub cut_at_the_first : filter_of (codes "a=b!=(c") ≡ Ok (Among (codes "a") (codes "b!=(c" ∷ []))
+pub cut_at_the_first : filter_of (codes "a=b!=(c") ≡ Ok (OneOf (codes "a") (codes "b!=(c" ∷ []))
 unfolding filter_of
 cut_at_the_first = refl
 
-pub a_bracket_alone : filter_of (codes "a=(") ≡ Ok (Among (codes "a") (codes "(" ∷ []))
+pub a_bracket_alone : filter_of (codes "a=(") ≡ Ok (OneOf (codes "a") (codes "(" ∷ []))
 unfolding filter_of
 a_bracket_alone = refl
 

@@ -10,7 +10,7 @@ use Rattle.ts_spec.specs.Value.{clamp, div_round}
 use Rattle.ts_spec.specs.Sample.{MAX_TIME}
 use Rattle.ts_spec.specs.Key.{Key}
 use Rattle.ts_spec.specs.State.{Label, empty}
-use Rattle.ts_spec.specs.Filter.{Among}
+use Rattle.ts_spec.specs.Filter.{OneOf}
 use Rattle.ts_spec.specs.Refusal.{EmptyRows}
 use Rattle.ts_spec.specs.Command.{Command, Create, MRange, Query, Show, Nothing, All, Selected, GroupBy}
 use Rattle.ts_spec.specs.Answer.{Number, Row}
@@ -18,7 +18,7 @@ use Rattle.ts_spec.specs.Response.{Response, Done, Members, Refused, Member, Sho
 use Rattle.ts_spec.specs.Response as response
 use Rattle.ts_spec.specs.Groups.{Labelled, groups}
 use Rattle.ts_spec.proofs.Examples.{responses, add, kept_for, question, tens, row, no_value}
-use Rattle.ts_spec.proofs.KeptAtWork.{responses_within_from}
+use Rattle.ts_spec.proofs.StoredExamples.{responses_within_from}
 
 -- ---- four series: two of area x, one of area y, and one without an area
 
@@ -46,7 +46,7 @@ abbrev by_area : Reducer → GroupBy
 by_area reducer = record { label = codes "area"; reducer = reducer }
 
 abbrev ask : Show → Query → Reducer → Command
-ask show q reducer = MRange false show (Among (codes "kind") (codes "s" ∷ []) ∷ []) q (Some (by_area reducer))
+ask show q reducer = MRange false show (OneOf (codes "kind") (codes "s" ∷ []) ∷ []) q (Some (by_area reducer))
 
 -- a label that is shown, with its value
 abbrev shows : (name value : List ℕ) → ShownLabel

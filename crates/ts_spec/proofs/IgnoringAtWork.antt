@@ -5,7 +5,7 @@ use Rattle.ts_spec.specs.Value.{clamp}
 use Rattle.ts_spec.specs.Command.{Command, Create, DelRange}
 use Rattle.ts_spec.specs.Response.{Response, Done, Count, Rows}
 use Rattle.ts_spec.proofs.Examples.{responses, d, s, x, create, ignoring, add, add_as, alter_ignore, increase, sum_rule, range, row}
-use Rattle.ts_spec.proofs.KeptAtWork.{kept_responses}
+use Rattle.ts_spec.proofs.StoredExamples.{stored_responses}
 
 -- ---- what is close to the last sample, and what is not
 
@@ -22,7 +22,7 @@ close_answers =
 pub close_samples : responses close_script ≡ close_answers
 close_samples = refl
 
-pub close_samples_kept : kept_responses close_script ≡ close_answers
+pub close_samples_kept : stored_responses close_script ≡ close_answers
 close_samples_kept = refl
 
 -- ---- an ignored sample is no write: a rule made since does not count it
@@ -37,7 +37,7 @@ pub not_counted : responses counted_script ≡ counted_answers
 unfolding clamp
 not_counted = refl
 
-pub not_counted_kept : kept_responses counted_script ≡ counted_answers
+pub not_counted_kept : stored_responses counted_script ≡ counted_answers
 unfolding clamp
 not_counted_kept = refl
 
@@ -56,7 +56,7 @@ own_answers =
 pub own_policy : responses own_script ≡ own_answers
 own_policy = refl
 
-pub own_policy_kept : kept_responses own_script ≡ own_answers
+pub own_policy_kept : stored_responses own_script ≡ own_answers
 own_policy_kept = refl
 
 -- ---- a destination ignores nothing
@@ -67,10 +67,10 @@ fed_script = create s ∷ Create d (ignoring Last 10 2) ∷ sum_rule s d ∷ add
 abbrev fed_answers : List Response
 fed_answers = Done ∷ Done ∷ Done ∷ Count 1 ∷ Count 11 ∷ Count 5 ∷ Rows (row 0 5 ∷ row 5 5 ∷ []) ∷ []
 
-pub fed : responses fed_script ≡ fed_answers
+pub update_dest : responses fed_script ≡ fed_answers
 unfolding clamp
-fed = refl
+update_dest = refl
 
-pub fed_kept : kept_responses fed_script ≡ fed_answers
+pub fed_kept : stored_responses fed_script ≡ fed_answers
 unfolding clamp
 fed_kept = refl

@@ -6,7 +6,7 @@ use Rattle.std.specs.Fmt.{decimal}
 use Rattle.ts_spec.specs.declared.wire.Kind.{Kind}
 use Rattle.ts_spec.specs.declared.wire.Kind.TheVariants.{Multibulk, Bulk, Crlf, TooLarge}
 use Rattle.ts_spec.specs.declared.wire.WireLimits.{WireLimits}
-use Rattle.ts_spec.specs.Wire.{Inside, Partial, Mode, Count, CountFeed, Length, LengthFeed, Move, Goto, Fault, Line, Blank, Zero, Number, Minus, LineMove, Goes, Returns, Wrong, FEED, MINUS, RETURN, digit_of, with_digit, want, move, line_step, on_count, on_length, after_count, after_length, at_end, after_move, read_on}
+use Rattle.ts_spec.specs.Wire.{Inside, Partial, Mode, Count, CountFeed, Length, LengthFeed, Move, Goto, Fault, Line, Blank, Zero, Number, Minus, LineMove, Goes, Returns, Wrong, FEED, MINUS, RETURN, digit_of, with_digit, expect_byte, move, line_step, on_count, on_length, after_count, after_length, at_end, after_move, read_on}
 use Rattle.ts_spec.proofs.Streams.{read_on-byte}
 
 -- what a byte of a line does, if its CR does this
@@ -51,15 +51,15 @@ length_line limits so_far = record {
 
 -- if the CR leads to the mode for LF
 pub record IsFed (limits : WireLimits) (mode : Mode) (next : Move) : Type 0 where
-  pub moves : (byte : ℕ) → move limits mode byte ≡ want byte FEED Crlf next
+  pub moves : (byte : ℕ) → move limits mode byte ≡ expect_byte byte FEED Crlf next
   pub inside : (begin : ℕ) → at_end mode begin ≡ Inside begin
 
 -- the expected byte, and any other
-pub want-same : (byte wanted : ℕ) (kind : Kind) (m : Move) → byte ≡ wanted → want byte wanted kind m ≡ m
-want-same byte wanted kind m e = ap (λ test. if test then m else Fault kind) (eq-eqb byte wanted e)
+pub expect_byte-same : (byte wanted : ℕ) (kind : Kind) (m : Move) → byte ≡ wanted → expect_byte byte wanted kind m ≡ m
+expect_byte-same byte wanted kind m e = ap (λ test. if test then m else Fault kind) (eq-eqb byte wanted e)
 
-pub want-other : (byte wanted : ℕ) (kind : Kind) (m : Move) → (byte ≡ wanted → ⊥) → want byte wanted kind m ≡ Fault kind
-want-other byte wanted kind m e = ap (λ test. if test then m else Fault kind) (ne_eqb byte wanted e)
+pub expect_byte-other : (byte wanted : ℕ) (kind : Kind) (m : Move) → (byte ≡ wanted → ⊥) → expect_byte byte wanted kind m ≡ Fault kind
+expect_byte-other byte wanted kind m e = ap (λ test. if test then m else Fault kind) (ne_eqb byte wanted e)
 
 pub count_fed : (limits : WireLimits) (n : ℕ) → IsFed limits (CountFeed n) (after_count limits n)
 count_fed limits n = record { moves = λ byte. refl; inside = λ begin. refl }

@@ -12,7 +12,7 @@ use Rattle.ts_spec.specs.declared.wire.Kind.{Kind}
 use Rattle.ts_spec.specs.declared.wire.Kind.TheVariants as kind
 use Rattle.ts_spec.specs.Refusal.{Fault, UnknownCommand, Arity, BadTimestamp, BadValue, BadOption, RepeatedOption, BadLabels, BadChunkSize, BadPolicy, BadEncoding, UnknownAggregator, AggregatorNotInProfile, BadDuration, BadFilter, NoPositiveFilter, Refusal, NoKey, KeyExists, KeysFull, LabelsFull, TooOld, Duplicate, OutOfRange, BeforeLast, SamplesFull, DestinationFull, DeleteBeyondRetention, SameKey, SourceIsDest, DestIsSource, DestHasSource, RulesSpent, RulesFull, NoRule, EmptyRows}
 use Rattle.ts_spec.specs.Messages.{fault_message, refusal_message}
-use Rattle.ts_spec.specs.Text.{IsOneLine, fault_words}
+use Rattle.ts_spec.specs.Text.{IsOneLine, protocol_message}
 use Rattle.ts_spec.specs.Replies.{encoding_name, policy_name, aggregator_name}
 
 -- whether a text has no CR
@@ -91,9 +91,9 @@ policy-line policy.Min = one_line (policy_name policy.Min) refl
 policy-line policy.Max = one_line (policy_name policy.Max) refl
 policy-line policy.Sum = one_line (policy_name policy.Sum) refl
 
-pub kind-line : (k : Kind) → IsOneLine (fault_words k)
-kind-line kind.Multibulk = one_line (fault_words kind.Multibulk) refl
-kind-line kind.Bulk = one_line (fault_words kind.Bulk) refl
-kind-line kind.Dollar = one_line (fault_words kind.Dollar) refl
-kind-line kind.Crlf = one_line (fault_words kind.Crlf) refl
-kind-line kind.TooLarge = one_line (fault_words kind.TooLarge) refl
+pub kind-line : (k : Kind) → IsOneLine (protocol_message k)
+kind-line kind.Multibulk = one_line (protocol_message kind.Multibulk) refl
+kind-line kind.Bulk = one_line (protocol_message kind.Bulk) refl
+kind-line kind.Dollar = one_line (protocol_message kind.Dollar) refl
+kind-line kind.Crlf = one_line (protocol_message kind.Crlf) refl
+kind-line kind.TooLarge = one_line (protocol_message kind.TooLarge) refl

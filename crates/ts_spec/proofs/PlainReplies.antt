@@ -9,9 +9,9 @@ use Rattle.ts_spec.specs.Messages.{memory_message}
 use Rattle.ts_spec.specs.Answer.{Row}
 use Rattle.ts_spec.specs.Response as response
 use Rattle.ts_spec.specs.Response.{Item, Wrote, IsWrong, IsRefused, ShownLabel, Member, RuleInfo, Info, Response}
-use Rattle.ts_spec.specs.Text.{Reply, Simple, Error, Int, Value, Bulk, Nil, Array, Replies, Empty, CRLF, line_text, IsOneLine, IsPlain, ArePlain, count_of, text, texts, fault_words}
+use Rattle.ts_spec.specs.Text.{Reply, Simple, Error, Int, Value, Bulk, Nil, Array, Replies, Empty, CRLF, line_text, IsOneLine, IsPlain, ArePlain, count_of, text, texts, protocol_message}
 use Rattle.ts_spec.specs.Text as replies
-use Rattle.ts_spec.specs.Replies.{listed, array, fault_reply, memory_reply, item_reply, row_reply, first_row_reply, last_row_reply, bulk_or_nil, shown_label_reply, member_reply, last_member_reply, label_reply, rule_reply, info_reply, reply_to, IsItemReply}
+use Rattle.ts_spec.specs.Replies.{reply_list, array, fault_reply, memory_reply, item_reply, row_reply, first_row_reply, last_row_reply, bulk_or_nil, shown_label_reply, member_reply, last_member_reply, label_reply, rule_reply, info_reply, reply_to, IsItemReply}
 use Rattle.ts_spec.proofs.OwnWords.{one_line, fault-line, refusal-line, aggregator-line, encoding-line, policy-line, kind-line}
 
 -- ---- lines, and what the length of a text bounds
@@ -62,7 +62,7 @@ mutual
 
 -- ---- replies
 
-all-lines : {X : Type 0} (f : X → Reply) → ((x : X) → HasLines (f x)) → (xs : List X) → HaveLines (listed (map f xs))
+all-lines : {X : Type 0} (f : X → Reply) → ((x : X) → HasLines (f x)) → (xs : List X) → HaveLines (reply_list (map f xs))
 all-lines f h [] = tt
 all-lines f h (x ∷ xs) = (h x, all-lines f h xs)
 
@@ -174,7 +174,7 @@ reply-lines (response.LastRow row) = last_row-lines row
 reply-lines (response.Members members) = all-lines member_reply member-lines members
 reply-lines (response.LastRows members) = all-lines last_member_reply last_member-lines members
 reply-lines (response.Keys keys) = all-lines (λ key. Bulk key) (λ key. tt) keys
-reply-lines (response.Told info) = info-lines info
+reply-lines (response.KeyInfo info) = info-lines info
 reply-lines response.Pong = one_line (codes "PONG") refl
 reply-lines (response.Word word) = tt
 
@@ -182,13 +182,13 @@ pub fault-plain : (fault : Fault) → IsPlain (fault_reply fault)
 fault-plain fault = fault-line fault
 
 -- of bytes that are no requests
-pub kind-plain : (k : Kind) → IsPlain (Error (fault_words k))
+pub kind-plain : (k : Kind) → IsPlain (Error (protocol_message k))
 kind-plain k = kind-line k
 
 pub memory-plain : IsPlain memory_reply
 memory-plain = one_line memory_message refl
 
-triples-lines : (items : List Reply) → All IsItemReply items → HaveLines (listed items)
+triples-lines : (items : List Reply) → All IsItemReply items → HaveLines (reply_list items)
 triples-lines [] h = tt
 triples-lines (item ∷ items) h = (first (All-head IsItemReply item items h), triples-lines items (All-tail IsItemReply item items h))
   where

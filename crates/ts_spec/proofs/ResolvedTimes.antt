@@ -7,7 +7,7 @@ use Rattle.ts_spec.specs.Command.{Triple, Command, Create, Alter, Add, Madd, Inc
 use Rattle.ts_spec.specs.Grammar.{any_clock, is_clock_at, needs_clock}
 use Rattle.ts_spec.specs.Key.{Key}
 use Rattle.ts_spec.specs.Refusal.{Fault}
-use Rattle.ts_spec.specs.Resolved.{resolved_word, resolved_triple, resolved}
+use Rattle.ts_spec.specs.ResolvedCommands.{resolved_word, resolved_triple, resolved}
 use Rattle.ts_spec.specs.Response.{Item}
 use Rattle.ts_spec.specs.State.{State}
 use Rattle.ts_spec.specs.Step.{Outcome, step, triple_step, item_of, madd}

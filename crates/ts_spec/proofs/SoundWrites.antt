@@ -4,7 +4,7 @@ use Rattle.std.specs.Option.{option_or}
 use Rattle.ts_spec.specs.Sample.{Point, IsAscending, at, at_times, between, outside, is_within, put}
 use Rattle.ts_spec.specs.Bucket.{start}
 use Rattle.ts_spec.specs.State.{Rule, Record}
-use Rattle.ts_spec.specs.Rules.{raised, is_append, is_eligible, taken_anew, touched, counted_samples, counted, sample_for, with_sample, meets, recounted, without}
+use Rattle.ts_spec.specs.Rules.{raised, is_append, is_eligible, eligible_in, touched, counted_samples, counted, sample_for, with_sample, meets, recounted, without}
 use Rattle.ts_spec.specs.Valid.{IsUpTo, IsCountable, IsSoundRule, IsOwn, IsSound}
 use Rattle.ts_spec.proofs.Samples.{at-times, at-append, at-put, at-put_all, ascending-times, ascending-put, ascending-put_all, ascending-join, at-filter, passing, each_before}
 use Rattle.ts_spec.proofs.Linked.{each-rule-map}
@@ -18,9 +18,9 @@ use Rattle.ts_spec.proofs.Sound.{IsPart, in_order-map, part-times}
 pub touched-from : (test : ℕ → Bool) (plain : List Point) (r : Rule) (t : ℕ) (p : Point) → IsAscending plain → at t (touched test plain r) ≡ Some p →
     ((at t plain ≡ Some p) × (r.made ≤ p.made)) ⊎ (at t r.seen ≡ Some p)
 touched-from test plain r t p h e =
-    let all : at t (touched test plain r) ≡ option_or (at t (taken_anew test plain r)) (at t (at_times (λ u. not (test (start r.grid u))) r.seen)) =
-    at-put_all t (taken_anew test plain r) (at_times (λ u. not (test (start r.grid u))) r.seen) in
-    go (at t (taken_anew test plain r)) refl (sym all ∙ e)
+    let all : at t (touched test plain r) ≡ option_or (at t (eligible_in test plain r)) (at t (at_times (λ u. not (test (start r.grid u))) r.seen)) =
+    at-put_all t (eligible_in test plain r) (at_times (λ u. not (test (start r.grid u))) r.seen) in
+    go (at t (eligible_in test plain r)) refl (sym all ∙ e)
   where
     kept : (t : ℕ) (b : Bool) → (if b then at t r.seen else None) ≡ Some p → at t r.seen ≡ Some p
     kept t true x = x
@@ -37,12 +37,12 @@ touched-from test plain r t p h e =
         passed false z w = absurd (cc w)
     inner false o q x y = absurd (cc y)
 
-    go : (o : Option Point) → at t (taken_anew test plain r) ≡ o → option_or o (at t (at_times (λ u. not (test (start r.grid u))) r.seen)) ≡ Some p →
+    go : (o : Option Point) → at t (eligible_in test plain r) ≡ o → option_or o (at t (at_times (λ u. not (test (start r.grid u))) r.seen)) ≡ Some p →
         ((at t plain ≡ Some p) × (r.made ≤ p.made)) ⊎ (at t r.seen ≡ Some p)
     go None x y = inr (kept t (not (test (start r.grid t))) (sym (at-times t (λ u. not (test (start r.grid u))) r.seen) ∙ y))
     go (Some q) x y =
         let eq : q ≡ p = some-same q p y in
-        let taken : at t (taken_anew test plain r) ≡ passing (is_eligible r) (if test (start r.grid t) then at t plain else None) =
+        let taken : at t (eligible_in test plain r) ≡ passing (is_eligible r) (if test (start r.grid t) then at t plain else None) =
         at-filter t (is_eligible r) (at_times (λ u. test (start r.grid u)) plain) (ascending-times (λ u. test (start r.grid u)) plain h)
         ∙ ap (passing (is_eligible r)) (at-times t (λ u. test (start r.grid u)) plain) in
         let from : (at t plain ≡ Some q) × (r.made ≤ q.made) = inner (test (start r.grid t)) (at t plain) q refl (sym taken ∙ x) in
@@ -50,7 +50,7 @@ touched-from test plain r t p h e =
 
 pub ascending-touched : (test : ℕ → Bool) (plain : List Point) (r : Rule) → IsAscending r.seen → IsAscending (touched test plain r)
 ascending-touched test plain r h =
-    ascending-put_all (taken_anew test plain r) (at_times (λ u. not (test (start r.grid u))) r.seen) (ascending-times (λ u. not (test (start r.grid u))) r.seen h)
+    ascending-put_all (eligible_in test plain r) (at_times (λ u. not (test (start r.grid u))) r.seen) (ascending-times (λ u. not (test (start r.grid u))) r.seen h)
 
 -- ---- a deletion
 

@@ -8,11 +8,11 @@ use Rattle.ts_spec.specs.Bucket.{start}
 use Rattle.ts_spec.specs.State.{edge_of}
 use Rattle.ts_spec.specs.Rules.{risen}
 use Rattle.ts_spec.specs.Valid.{IsUpTo}
-use Rattle.ts_spec.specs.Kept.{KeptRule}
-use Rattle.ts_spec.specs.Mending.{high_with, mended, loses, deleted_rows}
+use Rattle.ts_spec.specs.StoredSeries.{StoredRule}
+use Rattle.ts_spec.specs.StoredUpdates.{high_after_rows, updated_list, loses, deleted_rows}
 use Rattle.ts_spec.proofs.Samples.{at-times, at-put_all, ascending-times, ascending-put_all, ascending-same}
 use Rattle.ts_spec.proofs.Settles.{upto-risen, risen-covers}
-use Rattle.ts_spec.proofs.Mends.{times_of, risen-alike, high_with-risen, has-times}
+use Rattle.ts_spec.proofs.Mends.{times_of, risen-alike, high_after_rows-risen, has-times}
 use Rattle.ts_spec.proofs.TwoBuckets.{loses-within}
 use Rattle.ts_spec.proofs.TwoRows.{end_rows, two-rows}
 
@@ -31,15 +31,15 @@ at-span gone rows low up ps t =
 
 -- inserting a sample again does not raise the highest time
 pub high-span : (gone : ℕ → Bool) (rows : List Point) (low up : ℕ) (ps : List Point) (high : Option ℕ) → ((t : ℕ) (p : Point) → at t ps ≡ Some p → IsUpTo high t) →
-    high_with (span_rows gone rows low up ps) high ≡ high_with rows high
+    high_after_rows (span_rows gone rows low up ps) high ≡ high_after_rows rows high
 high-span gone rows low up ps high below =
-    high_with-risen (span_rows gone rows low up ps) high
+    high_after_rows-risen (span_rows gone rows low up ps) high
     ∙ risen-alike (times_of (span_rows gone rows low up ps)) (times_of rows) high
     (λ b x. covered b (at b rows) refl (not (gone b)) (is_within low up b) (at b ps) refl (ap is_some (sym (at-span gone rows low up ps b)) ∙ sym (has-times b (span_rows gone rows low up ps)) ∙ x))
     (λ b x. risen-covers (times_of (span_rows gone rows low up ps)) b high
     (has-times b (span_rows gone rows low up ps) ∙ ap is_some (at-span gone rows low up ps b)
     ∙ first (at b rows) (if not (gone b) then (if is_within low up b then at b ps else None) else None) (sym (has-times b rows) ∙ x)))
-    ∙ sym (high_with-risen rows high)
+    ∙ sym (high_after_rows-risen rows high)
   where
     first : (o p : Option Point) → is_some o ≡ true → is_some (option_or o p) ≡ true
     first (Some q) p e = refl
@@ -55,11 +55,11 @@ high-span gone rows low up ps high below =
 
 -- An update by a test that holds only in an interval is an update of the interval, with the samples that stay and
 -- the rows.
-pub mended-span : (retention : ℕ) (high : Option ℕ) (gone : ℕ → Bool) (rows : List Point) (low up : ℕ) (ps : List Point) → IsAscending ps →
+pub updated_list-span : (retention : ℕ) (high : Option ℕ) (gone : ℕ → Bool) (rows : List Point) (low up : ℕ) (ps : List Point) → IsAscending ps →
     ((t : ℕ) → gone t ≡ true → is_within low up t ≡ true) → ((t : ℕ) (p : Point) → at t ps ≡ Some p → IsUpTo high t) →
-    mended retention high gone rows ps ≡ mended retention high (is_within low up) (span_rows gone rows low up ps) ps
-mended-span retention high gone rows low up ps a inside below =
-    ap (at_times (nat_le (edge_of retention (high_with rows high))))
+    updated_list retention high gone rows ps ≡ updated_list retention high (is_within low up) (span_rows gone rows low up ps) ps
+updated_list-span retention high gone rows low up ps a inside below =
+    ap (at_times (nat_le (edge_of retention (high_after_rows rows high))))
     (ascending-same (put_all rows (at_times (λ t. not (gone t)) ps)) (put_all (span_rows gone rows low up ps) (outside low up ps))
     (ascending-put_all rows (at_times (λ t. not (gone t)) ps) (ascending-times (λ t. not (gone t)) ps a))
     (ascending-put_all (span_rows gone rows low up ps) (outside low up ps) (ascending-times (λ t. not (is_within low up t)) ps a))
@@ -87,12 +87,12 @@ mended-span retention high gone rows low up ps a inside below =
 -- A deletion updates a destination over the interval from the first start to the last: with the row of the first
 -- bucket, that of the last,
 -- and its own samples there that stay.
-pub mended-deletion : (retention : ℕ) (high : Option ℕ) (from to : ℕ) (ps : List Point) (born : ℕ) (q : KeptRule) (list : List Point) → from ≤ to → IsAscending ps → IsAscending list →
+pub updated_list-deletion : (retention : ℕ) (high : Option ℕ) (from to : ℕ) (ps : List Point) (born : ℕ) (q : StoredRule) (list : List Point) → from ≤ to → IsAscending ps → IsAscending list →
     ((t : ℕ) (p : Point) → at t list ≡ Some p → IsUpTo high t) →
-    mended retention high (loses (between from to ps) q) (deleted_rows (between from to ps) (outside from to ps) born q) list ≡
-    mended retention high (is_within (start q.grid from) (start q.grid to))
+    updated_list retention high (loses (between from to ps) q) (deleted_rows (between from to ps) (outside from to ps) born q) list ≡
+    updated_list retention high (is_within (start q.grid from) (start q.grid to))
     (span_rows (loses (between from to ps) q) (end_rows (between from to ps) (outside from to ps) born q (start q.grid from) (start q.grid to)) (start q.grid from) (start q.grid to) list) list
-mended-deletion retention high from to ps born q list order a b below =
-    ap (λ (rows : List Point). mended retention high (loses (between from to ps) q) rows list) (two-rows from to ps born q order a)
-    ∙ mended-span retention high (loses (between from to ps) q) (end_rows (between from to ps) (outside from to ps) born q (start q.grid from) (start q.grid to))
+updated_list-deletion retention high from to ps born q list order a b below =
+    ap (λ (rows : List Point). updated_list retention high (loses (between from to ps) q) rows list) (two-rows from to ps born q order a)
+    ∙ updated_list-span retention high (loses (between from to ps) q) (end_rows (between from to ps) (outside from to ps) born q (start q.grid from) (start q.grid to))
     (start q.grid from) (start q.grid to) list b (λ t x. loses-within q from to t ps x) below

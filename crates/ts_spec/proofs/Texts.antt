@@ -4,7 +4,7 @@ use Rattle.std.specs.Fmt.{decimal, signed_decimal}
 use Rattle.std.proofs.lemmas.Bool.{eqb-false}
 use Rattle.std.proofs.lemmas.Fmt.{decimal_injective}
 use Rattle.ts_spec.specs.Text.{shown_cell, Reply, Simple, Error, Int, Value, Bulk, Nil, Array, Replies, Empty, Item, CRLF, IsOneLine, IsPlain, ArePlain, count_of, line_text, text, texts}
-use Rattle.ts_spec.specs.Replies.{listed, array}
+use Rattle.ts_spec.specs.Replies.{reply_list, array}
 use Rattle.ts_spec.proofs.OneLine.{AreDigits, AreDigits-decimal, IsOneLine-digits, IsOneLine-signed, IsOneLine-shown_cell}
 
 -- no digits are -1
@@ -188,15 +188,15 @@ arrays_alike rs qs hr hq e =
     let behind : texts rs ++ [] ≡ texts qs ++ [] = cc (lines.1) in
     (decimal_injective (count_of rs) (count_of qs) hr.0 hq.0 lines.0, sym (append-nil (texts rs)) ∙ behind ∙ append-nil (texts qs))
 
-texts_alike : (xs ys : List Reply) → ArePlain (listed xs) → ArePlain (listed ys) → count_of (listed xs) ≡ count_of (listed ys) → texts (listed xs) ≡ texts (listed ys) → map text xs ≡ map text ys
+texts_alike : (xs ys : List Reply) → ArePlain (reply_list xs) → ArePlain (reply_list ys) → count_of (reply_list xs) ≡ count_of (reply_list ys) → texts (reply_list xs) ≡ texts (reply_list ys) → map text xs ≡ map text ys
 texts_alike [] [] hx hy n e = refl
 texts_alike [] (y ∷ ys) hx hy n e = absurd (omega arith)
 texts_alike (x ∷ xs) [] hx hy n e = absurd (omega arith)
 texts_alike (x ∷ xs) (y ∷ ys) hx hy n e =
-    let first = ends x y (texts (listed xs)) (texts (listed ys)) hx.0 hy.0 e in
+    let first = ends x y (texts (reply_list xs)) (texts (reply_list ys)) hx.0 hy.0 e in
     let others : map text xs ≡ map text ys = texts_alike xs ys hx.1 hy.1 (omega arith) first.1 in
     ap (λ (w : List ℕ). w ∷ map text xs) first.0 ∙ ap (λ (ws : List (List ℕ)). text y ∷ ws) others
 
 -- The text of an array determines the texts of its items.
 pub array_shows : (xs ys : List Reply) → IsPlain (array xs) → IsPlain (array ys) → text (array xs) ≡ text (array ys) → map text xs ≡ map text ys
-array_shows xs ys hx hy e = let alike = arrays_alike (listed xs) (listed ys) hx hy e in texts_alike xs ys hx.1 hy.1 alike.0 alike.1
+array_shows xs ys hx hy e = let alike = arrays_alike (reply_list xs) (reply_list ys) hx hy e in texts_alike xs ys hx.1 hy.1 alike.0 alike.1

@@ -5,7 +5,7 @@ use Rattle.std.specs.Option.{option_or}
 use Rattle.ts_spec.specs.Sample.{Point, IsAscending, at, at_times}
 use Rattle.ts_spec.specs.Bucket.{start, members}
 use Rattle.ts_spec.specs.State.{Rule}
-use Rattle.ts_spec.specs.Rules.{is_eligible, taken_anew, touched}
+use Rattle.ts_spec.specs.Rules.{is_eligible, eligible_in, touched}
 use Rattle.ts_spec.proofs.Samples.{at-times, at-put_all, at-filter, passing, ascending-times, ascending-filter, ascending-same}
 use Rattle.ts_spec.proofs.SoundWrites.{ascending-touched}
 
@@ -14,7 +14,7 @@ pub at-touch : (test : ℕ → Bool) (plain : List Point) (r : Rule) (t : ℕ) �
     at t (touched test plain r) ≡
     option_or (if test (start r.grid t) then passing (is_eligible r) (at t plain) else None) (if not (test (start r.grid t)) then at t r.seen else None)
 at-touch test plain r t h =
-    at-put_all t (taken_anew test plain r) (at_times (λ u. not (test (start r.grid u))) r.seen)
+    at-put_all t (eligible_in test plain r) (at_times (λ u. not (test (start r.grid u))) r.seen)
     ∙ ap (λ (x : Option Point). option_or x (at t (at_times (λ u. not (test (start r.grid u))) r.seen)))
     (at-filter t (is_eligible r) (at_times (λ u. test (start r.grid u)) plain) (ascending-times (λ u. test (start r.grid u)) plain h)
     ∙ ap (passing (is_eligible r)) (at-times t (λ u. test (start r.grid u)) plain) ∙ inside (test (start r.grid t)))

@@ -5,8 +5,8 @@ use Rattle.std.proofs.lemmas.Bool.{cases_lt, false≢true, and_parts, and_from}
 use Rattle.ts_spec.specs.Sample.{Point, between, outside, is_within}
 use Rattle.ts_spec.specs.Bucket.{Grid, start, members}
 use Rattle.ts_spec.specs.Rules.{is_past}
-use Rattle.ts_spec.specs.Kept.{KeptRule}
-use Rattle.ts_spec.specs.Mending.{lies_in, loses}
+use Rattle.ts_spec.specs.StoredSeries.{StoredRule}
+use Rattle.ts_spec.specs.StoredUpdates.{lies_in, loses}
 use Rattle.ts_spec.proofs.Buckets.{start-order}
 
 -- ---- the samples that are left
@@ -75,5 +75,5 @@ touched-within g from to b ps touched =
     let lies : start g x.time ≡ b = x.lies in
     and_from (nat_le (start g from) b) (nat_le b (start g to)) (le-leb (start g from) b (omega arith)) (le-leb b (start g to) (omega arith))
 
-pub loses-within : (q : KeptRule) (from to b : ℕ) (ps : List Point) → loses (between from to ps) q b ≡ true → is_within (start q.grid from) (start q.grid to) b ≡ true
+pub loses-within : (q : StoredRule) (from to b : ℕ) (ps : List Point) → loses (between from to ps) q b ≡ true → is_within (start q.grid from) (start q.grid to) b ≡ true
 loses-within q from to b ps x = touched-within q.grid from to b ps (and_parts (is_past q.current b) (lies_in q.grid (between from to ps) b) x).1

@@ -6,8 +6,8 @@ use Rattle.ts_spec.specs.Sample.{Point, IsAfter, IsAscending, at, between, outsi
 use Rattle.ts_spec.specs.Bucket.{start, starts, members}
 use Rattle.ts_spec.specs.Aggregate.{summary, result_of}
 use Rattle.ts_spec.specs.Rules.{is_past, has_any}
-use Rattle.ts_spec.specs.Kept.{KeptRule}
-use Rattle.ts_spec.specs.Mending.{bucket_row, counted_anew, lies_in, loses, rows_of, deleted_rows}
+use Rattle.ts_spec.specs.StoredSeries.{StoredRule}
+use Rattle.ts_spec.specs.StoredUpdates.{bucket_row, recounted_bucket, lies_in, loses, rows_of, deleted_rows}
 use Rattle.ts_spec.proofs.Buckets.{start-order}
 use Rattle.ts_spec.proofs.Rising.{IsPast, IsRising, starts-rising, rising-filter}
 use Rattle.ts_spec.proofs.Samples.{at-append, ascending-times, ascending-same}
@@ -26,72 +26,72 @@ row-after : (u : ℕ) (x : Bool) (p : Point) (ps : List Point) → u < p.time �
 row-after u true p ps h k = k
 row-after u false p ps h k = (h, k)
 
-rows-after : (u : ℕ) (left : List Point) (born : ℕ) (q : KeptRule) (bs : List ℕ) → IsPast u bs → IsAfter u (rows_of left born q bs)
+rows-after : (u : ℕ) (left : List Point) (born : ℕ) (q : StoredRule) (bs : List ℕ) → IsPast u bs → IsAfter u (rows_of left born q bs)
 rows-after u left born q [] x = tt
 rows-after u left born q (b ∷ bs) x =
-    row-after u ((counted_anew q b left).count == 0) (record { time = b; value = result_of q.agg (counted_anew q b left); made = born }) (rows_of left born q bs) x.0 (rows-after u left born q bs x.1)
+    row-after u ((recounted_bucket q b left).count == 0) (record { time = b; value = result_of q.agg (recounted_bucket q b left); made = born }) (rows_of left born q bs) x.0 (rows-after u left born q bs x.1)
 
-rows-ascending : (left : List Point) (born : ℕ) (q : KeptRule) (bs : List ℕ) → IsRising bs → IsAscending (rows_of left born q bs)
+rows-ascending : (left : List Point) (born : ℕ) (q : StoredRule) (bs : List ℕ) → IsRising bs → IsAscending (rows_of left born q bs)
 rows-ascending left born q [] x = tt
 rows-ascending left born q (b ∷ bs) x =
-    row-first ((counted_anew q b left).count == 0) (record { time = b; value = result_of q.agg (counted_anew q b left); made = born }) (rows_of left born q bs)
+    row-first ((recounted_bucket q b left).count == 0) (record { time = b; value = result_of q.agg (recounted_bucket q b left); made = born }) (rows_of left born q bs)
     (rows-after b left born q bs x.0) (rows-ascending left born q bs x.1)
 
 -- The rows of a deletion are ascending.
-pub deleted_rows-ascending : (gone left : List Point) (born : ℕ) (q : KeptRule) → IsAscending left → IsAscending (deleted_rows gone left born q)
+pub deleted_rows-ascending : (gone left : List Point) (born : ℕ) (q : StoredRule) → IsAscending left → IsAscending (deleted_rows gone left born q)
 deleted_rows-ascending gone left born q a =
     rows-ascending left born q (filter (loses gone q) (starts q.grid left)) (rising-filter (loses gone q) (starts q.grid left) (starts-rising q.grid left a))
 
 -- ---- two buckets
 
 -- the row of one bucket, if it is closed and lost a sample
-abbrev pub row_at : (gone left : List Point) → (born : ℕ) → KeptRule → ℕ → List Point
-row_at gone left born q b = if loses gone q b then bucket_row q.agg born b (counted_anew q b left) else []
+abbrev pub row_at : (gone left : List Point) → (born : ℕ) → StoredRule → ℕ → List Point
+row_at gone left born q b = if loses gone q b then bucket_row q.agg born b (recounted_bucket q b left) else []
 
 -- those of two buckets, or of one
-abbrev pub end_rows : (gone left : List Point) → (born : ℕ) → KeptRule → (first last : ℕ) → List Point
+abbrev pub end_rows : (gone left : List Point) → (born : ℕ) → StoredRule → (first last : ℕ) → List Point
 end_rows gone left born q first last = row_at gone left born q first ++ (if first == last then [] else row_at gone left born q last)
 
-ends-ascending : (gone left : List Point) (born : ℕ) (q : KeptRule) (first last : ℕ) → first ≤ last → IsAscending (end_rows gone left born q first last)
+ends-ascending : (gone left : List Point) (born : ℕ) (q : StoredRule) (first last : ℕ) → first ≤ last → IsAscending (end_rows gone left born q first last)
 ends-ascending gone left born q first last h = go (first == last) refl (loses gone q first) (loses gone q last)
   where
-    two : first < last → (x y : Bool) → IsAscending ((if x then [] else record { time = first; value = result_of q.agg (counted_anew q first left); made = born } ∷ []) ++ (if y then [] else record { time = last; value = result_of q.agg (counted_anew q last left); made = born } ∷ []))
+    two : first < last → (x y : Bool) → IsAscending ((if x then [] else record { time = first; value = result_of q.agg (recounted_bucket q first left); made = born } ∷ []) ++ (if y then [] else record { time = last; value = result_of q.agg (recounted_bucket q last left); made = born } ∷ []))
     two l true true = tt
     two l true false = (tt, tt)
     two l false true = (tt, tt)
     two l false false = ((l, tt), (tt, tt))
 
     go : (x : Bool) → (first == last) ≡ x → (y z : Bool) →
-        IsAscending ((if y then bucket_row q.agg born first (counted_anew q first left) else []) ++ (if x then [] else (if z then bucket_row q.agg born last (counted_anew q last left) else [])))
-    go true e true z = row-first ((counted_anew q first left).count == 0) (record { time = first; value = result_of q.agg (counted_anew q first left); made = born }) [] tt tt
+        IsAscending ((if y then bucket_row q.agg born first (recounted_bucket q first left) else []) ++ (if x then [] else (if z then bucket_row q.agg born last (recounted_bucket q last left) else [])))
+    go true e true z = row-first ((recounted_bucket q first left).count == 0) (record { time = first; value = result_of q.agg (recounted_bucket q first left); made = born }) [] tt tt
     go true e false z = tt
     go false e true true =
         let other : first ≢ last = λ k. absurd (false≢true (sym e ∙ eq-eqb first last k)) in
-        two (omega arith) ((counted_anew q first left).count == 0) ((counted_anew q last left).count == 0)
-    go false e true false = row-first ((counted_anew q first left).count == 0) (record { time = first; value = result_of q.agg (counted_anew q first left); made = born }) [] tt tt
-    go false e false true = two_alone ((counted_anew q last left).count == 0)
+        two (omega arith) ((recounted_bucket q first left).count == 0) ((recounted_bucket q last left).count == 0)
+    go false e true false = row-first ((recounted_bucket q first left).count == 0) (record { time = first; value = result_of q.agg (recounted_bucket q first left); made = born }) [] tt tt
+    go false e false true = two_alone ((recounted_bucket q last left).count == 0)
       where
-        two_alone : (y : Bool) → IsAscending (if y then [] else record { time = last; value = result_of q.agg (counted_anew q last left); made = born } ∷ [])
+        two_alone : (y : Bool) → IsAscending (if y then [] else record { time = last; value = result_of q.agg (recounted_bucket q last left); made = born } ∷ [])
         two_alone true = tt
         two_alone false = (tt, tt)
     go false e false false = tt
 
-at-row_at : (gone left : List Point) (born : ℕ) (q : KeptRule) (b t : ℕ) →
-    at t (row_at gone left born q b) ≡ (if (b == t) && loses gone q t then at t (bucket_row q.agg born t (counted_anew q t left)) else None)
+at-row_at : (gone left : List Point) (born : ℕ) (q : StoredRule) (b t : ℕ) →
+    at t (row_at gone left born q b) ≡ (if (b == t) && loses gone q t then at t (bucket_row q.agg born t (recounted_bucket q t left)) else None)
 at-row_at gone left born q b t = go (b == t) refl (loses gone q b) refl
   where
     go : (x : Bool) → (b == t) ≡ x → (y : Bool) → loses gone q b ≡ y →
-        at t (if y then bucket_row q.agg born b (counted_anew q b left) else []) ≡ (if x && loses gone q t then at t (bucket_row q.agg born t (counted_anew q t left)) else None)
+        at t (if y then bucket_row q.agg born b (recounted_bucket q b left) else []) ≡ (if x && loses gone q t then at t (bucket_row q.agg born t (recounted_bucket q t left)) else None)
     go true e true f =
-        ap (λ (c : ℕ). at t (bucket_row q.agg born c (counted_anew q c left))) (eqb-true b t e)
-        ∙ ap (λ (y : Bool). if y then at t (bucket_row q.agg born t (counted_anew q t left)) else None) (sym f ∙ ap (loses gone q) (eqb-true b t e))
-    go true e false f = ap (λ (y : Bool). if y then at t (bucket_row q.agg born t (counted_anew q t left)) else None) (sym f ∙ ap (loses gone q) (eqb-true b t e))
-    go false e true f = at-other_row q.agg born b t (counted_anew q b left) e
+        ap (λ (c : ℕ). at t (bucket_row q.agg born c (recounted_bucket q c left))) (eqb-true b t e)
+        ∙ ap (λ (y : Bool). if y then at t (bucket_row q.agg born t (recounted_bucket q t left)) else None) (sym f ∙ ap (loses gone q) (eqb-true b t e))
+    go true e false f = ap (λ (y : Bool). if y then at t (bucket_row q.agg born t (recounted_bucket q t left)) else None) (sym f ∙ ap (loses gone q) (eqb-true b t e))
+    go false e true f = at-other_row q.agg born b t (recounted_bucket q b left) e
     go false e false f = refl
 
 -- The rows of a deletion are the row of the bucket of `from` and that of `to`, each if the bucket is closed and lost
 -- a sample.
-pub two-rows : (from to : ℕ) (ps : List Point) (born : ℕ) (q : KeptRule) → from ≤ to → IsAscending ps →
+pub two-rows : (from to : ℕ) (ps : List Point) (born : ℕ) (q : StoredRule) → from ≤ to → IsAscending ps →
     deleted_rows (between from to ps) (outside from to ps) born q ≡ end_rows (between from to ps) (outside from to ps) born q (start q.grid from) (start q.grid to)
 two-rows from to ps born q order a =
     ascending-same (deleted_rows (between from to ps) (outside from to ps) born q) (end_rows (between from to ps) (outside from to ps) born q (start q.grid from) (start q.grid to))
@@ -104,7 +104,7 @@ two-rows from to ps born q order a =
     ∙ sym (ends t))
   where
     row : ℕ → Option Point
-    row t = at t (bucket_row q.agg born t (counted_anew q t (outside from to ps)))
+    row t = at t (bucket_row q.agg born t (recounted_bucket q t (outside from to ps)))
 
     ends : (t : ℕ) → at t (end_rows (between from to ps) (outside from to ps) born q (start q.grid from) (start q.grid to)) ≡
         option_or (if (start q.grid from == t) && loses (between from to ps) q t then row t else None)

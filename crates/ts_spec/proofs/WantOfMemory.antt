@@ -8,7 +8,7 @@ use Rattle.ts_spec.specs.Refusal.{Fault, UnknownCommand, Arity, BadTimestamp, Ba
 use Rattle.ts_spec.specs.Response as response
 use Rattle.ts_spec.specs.Response.{Item, Wrote, IsWrong, IsRefused, Response}
 use Rattle.ts_spec.specs.Answer.{Row}
-use Rattle.ts_spec.specs.Text.{Reply, Error, text, fault_words, fault_text}
+use Rattle.ts_spec.specs.Text.{Reply, Error, text, protocol_message, protocol_error_text}
 use Rattle.ts_spec.specs.Replies.{fault_reply, refusal_reply, memory_reply, item_reply, last_row_reply, reply_to}
 
 -- the first byte of a text, and the second
@@ -70,7 +70,7 @@ refusal-begins EmptyRows = refl
 pub fault-not-memory : (fault : Fault) → text (fault_reply fault) ≢ text memory_reply
 fault-not-memory fault = not-error (fault_reply fault) (fault-begins fault)
 
-kind-begins : (k : Kind) → second (fault_text k) ≡ 69
+kind-begins : (k : Kind) → second (protocol_error_text k) ≡ 69
 kind-begins kind.Multibulk = refl
 kind-begins kind.Bulk = refl
 kind-begins kind.Dollar = refl
@@ -78,8 +78,8 @@ kind-begins kind.Crlf = refl
 kind-begins kind.TooLarge = refl
 
 -- of bytes that are no requests
-pub kind-not-memory : (k : Kind) → fault_text k ≢ text memory_reply
-kind-not-memory k = not-error (Error (fault_words k)) (kind-begins k)
+pub kind-not-memory : (k : Kind) → protocol_error_text k ≢ text memory_reply
+kind-not-memory k = not-error (Error (protocol_message k)) (kind-begins k)
 
 refusal-not-memory : (refusal : Refusal) → text (refusal_reply refusal) ≢ text memory_reply
 refusal-not-memory refusal = not-error (refusal_reply refusal) (refusal-begins refusal)
@@ -105,6 +105,6 @@ reply-not-memory (response.Rows rows) = not-sign (reply_to (response.Rows rows))
 reply-not-memory (response.Members members) = not-sign (reply_to (response.Members members)) 42 refl (eqb-false 42 45 refl)
 reply-not-memory (response.LastRows members) = not-sign (reply_to (response.LastRows members)) 42 refl (eqb-false 42 45 refl)
 reply-not-memory (response.Keys keys) = not-sign (reply_to (response.Keys keys)) 42 refl (eqb-false 42 45 refl)
-reply-not-memory (response.Told info) = not-sign (reply_to (response.Told info)) 42 refl (eqb-false 42 45 refl)
+reply-not-memory (response.KeyInfo info) = not-sign (reply_to (response.KeyInfo info)) 42 refl (eqb-false 42 45 refl)
 reply-not-memory response.Pong = not-sign (reply_to response.Pong) 43 refl (eqb-false 43 45 refl)
 reply-not-memory (response.Word word) = not-sign (reply_to (response.Word word)) 36 refl (eqb-false 36 45 refl)

@@ -5,7 +5,7 @@ use Rattle.std.proofs.lemmas.List.Elements.{All-nil, All-cons, All-append}
 use Rattle.std.proofs.lemmas.List.Sums.{sum_by-append, sum_by-cons}
 use Rattle.ts_spec.specs.declared.wire.Kind.TheVariants.{Crlf, Dollar, TooLarge}
 use Rattle.ts_spec.specs.declared.wire.WireLimits.{WireLimits}
-use Rattle.ts_spec.specs.Fronts.{IsWithin}
+use Rattle.ts_spec.specs.StreamPrefixes.{IsWithin}
 use Rattle.ts_spec.specs.Wire.{Request, Stream, Partial, Line, Blank, Zero, Number, Minus, MinusOne, Mode, Start, Text, Count, CountFeed, Mark, Length, LengthFeed, Body, WordReturn, WordFeed, Move, Goto, Whole, Fault, LineMove, Goes, Returns, Wrong, STAR, DOLLAR, RETURN, FEED, MINUS, on_text, on_count, on_length, on_body, after_count, after_length, after_word, with_digit, line_step, is_digit, digit_of, words_of_line, move, at_end, after_move, then_request, read_on, requests_of}
 
 -- a number so far is at most this

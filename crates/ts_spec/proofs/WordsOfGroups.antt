@@ -3,7 +3,7 @@ use Rattle.std.specs.Prelude.{◌≡◌, refl, List, [], ◌∷◌, ◌++◌, co
 use Rattle.ts_spec.specs.declared.bucket.Reducer.{Reducer}
 use Rattle.ts_spec.specs.declared.bucket.Reducer.TheVariants.{Max, Count}
 use Rattle.ts_spec.specs.Command.{Command, MRange, Show, Nothing, Selected}
-use Rattle.ts_spec.specs.Filter.{Among}
+use Rattle.ts_spec.specs.Filter.{OneOf}
 use Rattle.ts_spec.specs.FilterText.{filter_of}
 use Rattle.ts_spec.specs.Grammar.{commands, command}
 use Rattle.ts_spec.specs.ManySeries.{filter_word, label_word, reducer_word, shown_options, many_options}
@@ -19,7 +19,7 @@ abbrev asked : List Word → Result Command Fault
 asked words = command (codes "TS.MRANGE" ∷ codes "-" ∷ codes "+" ∷ words)
 
 abbrev grouped : Show → (label : Word) → Reducer → Command
-grouped show label reducer = MRange false show (Among (codes "a") (codes "x" ∷ []) ∷ []) (question 0 MAX_TIME None) (Some (record { label = label; reducer = reducer }))
+grouped show label reducer = MRange false show (OneOf (codes "a") (codes "x" ∷ []) ∷ []) (question 0 MAX_TIME None) (Some (record { label = label; reducer = reducer }))
 
 abbrev filtered : List Word
 filtered = codes "FILTER" ∷ codes "a=x" ∷ []

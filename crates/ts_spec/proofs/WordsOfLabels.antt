@@ -3,7 +3,7 @@ use Rattle.std.specs.Prelude.{◌≡◌, refl, [], ◌∷◌, codes, true, false
 use Rattle.ts_spec.specs.declared.series.Encoding.TheVariants.{Compressed}
 use Rattle.ts_spec.specs.declared.series.Policy.TheVariants.{Block}
 use Rattle.ts_spec.specs.Command.{Create, MRange, MGet, QueryIndex, All, Selected}
-use Rattle.ts_spec.specs.Filter.{Among, NotAmong, Absent}
+use Rattle.ts_spec.specs.Filter.{OneOf, NoneOf, Absent}
 use Rattle.ts_spec.specs.FilterText.{filter_of}
 use Rattle.ts_spec.specs.Grammar.{commands, command}
 use Rattle.ts_spec.specs.ManySeries.{filter_word, shown_options, last_options, many_options}
@@ -38,12 +38,12 @@ unfolding commands alter_options
 an_empty_value = refl
 
 pub ranges : command (codes "TS.MREVRANGE" ∷ codes "-" ∷ codes "9" ∷ codes "FILTER" ∷ codes "a=x" ∷ codes "b!=y" ∷ codes "SELECTED_LABELS" ∷ codes "a" ∷ codes "zone" ∷ codes "COUNT" ∷ codes "3" ∷ [])
-    ≡ Ok (MRange false (Selected (codes "a" ∷ codes "zone" ∷ [])) (Among (codes "a") (codes "x" ∷ []) ∷ NotAmong (codes "b") (codes "y" ∷ []) ∷ [])
+    ≡ Ok (MRange false (Selected (codes "a" ∷ codes "zone" ∷ [])) (OneOf (codes "a") (codes "x" ∷ []) ∷ NoneOf (codes "b") (codes "y" ∷ []) ∷ [])
     (record (question 0 9 None) { count = Some 3; reverse = true }) None)
 unfolding commands end_word time_word many_options shown_options range_options filter_word filter_of count_word
 ranges = refl
 
-pub the_last_ones : command (codes "ts.mget" ∷ codes "WITHLABELS" ∷ codes "FILTER" ∷ codes "a=x" ∷ []) ≡ Ok (MGet false All (Among (codes "a") (codes "x" ∷ []) ∷ []))
+pub the_last_ones : command (codes "ts.mget" ∷ codes "WITHLABELS" ∷ codes "FILTER" ∷ codes "a=x" ∷ []) ≡ Ok (MGet false All (OneOf (codes "a") (codes "x" ∷ []) ∷ []))
 unfolding commands last_options shown_options filter_word filter_of
 the_last_ones = refl
 
@@ -59,7 +59,7 @@ pub none_is_positive : command (codes "TS.QUERYINDEX" ∷ codes "a!=x" ∷ codes
 unfolding commands filter_word filter_of
 none_is_positive = refl
 
-pub keys : command (codes "TS.QUERYINDEX" ∷ codes "a=(x,z)" ∷ codes "b=" ∷ []) ≡ Ok (QueryIndex (Among (codes "a") (codes "x" ∷ codes "z" ∷ []) ∷ Absent (codes "b") ∷ []))
+pub keys : command (codes "TS.QUERYINDEX" ∷ codes "a=(x,z)" ∷ codes "b=" ∷ []) ≡ Ok (QueryIndex (OneOf (codes "a") (codes "x" ∷ codes "z" ∷ []) ∷ Absent (codes "b") ∷ []))
 unfolding commands filter_word filter_of
 keys = refl
 

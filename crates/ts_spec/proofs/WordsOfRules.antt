@@ -2,7 +2,7 @@
 use Rattle.std.specs.Prelude.{◌≡◌, refl, true, [], ◌∷◌, codes, Ok, Err}
 use Rattle.ts_spec.specs.declared.bucket.Aggregator.TheVariants.{Avg, Max}
 use Rattle.ts_spec.specs.Command.{CreateRule, DeleteRule, Get, MGet, InfoOf, Nothing}
-use Rattle.ts_spec.specs.Filter.{Among}
+use Rattle.ts_spec.specs.Filter.{OneOf}
 use Rattle.ts_spec.specs.FilterText.{filter_of}
 use Rattle.ts_spec.specs.Grammar.{commands, command}
 use Rattle.ts_spec.specs.ManySeries.{filter_word, shown_options, last_options}
@@ -57,7 +57,7 @@ pub the_open_bucket_too : command (codes "TS.GET" ∷ codes "d" ∷ codes "lates
 unfolding commands
 the_open_bucket_too = refl
 
-pub open_buckets_of_many : command (codes "TS.MGET" ∷ codes "LATEST" ∷ codes "FILTER" ∷ codes "a=x" ∷ []) ≡ Ok (MGet true Nothing (Among (codes "a") (codes "x" ∷ []) ∷ []))
+pub open_buckets_of_many : command (codes "TS.MGET" ∷ codes "LATEST" ∷ codes "FILTER" ∷ codes "a=x" ∷ []) ≡ Ok (MGet true Nothing (OneOf (codes "a") (codes "x" ∷ []) ∷ []))
 unfolding commands last_options shown_options filter_word filter_of
 open_buckets_of_many = refl
 

@@ -9,13 +9,13 @@ use Rattle.ts_spec.specs.Key.{Key}
 use Rattle.ts_spec.specs.State.{Rule, Record}
 use Rattle.ts_spec.specs.Rules.{is_past, is_closed, raised, is_append, is_eligible, open_of, sample_for, write_touches, lost_by}
 use Rattle.ts_spec.specs.Valid.{IsUpTo, IsSoundRule, IsSound}
-use Rattle.ts_spec.specs.Kept.{KeptRule, summary_at, kept_rule}
-use Rattle.ts_spec.specs.Mending.{written_row}
+use Rattle.ts_spec.specs.StoredSeries.{StoredRule, summary_at, stored_rule}
+use Rattle.ts_spec.specs.StoredUpdates.{written_row}
 use Rattle.ts_spec.proofs.Buckets.{start-order}
 use Rattle.ts_spec.proofs.Keys.{same-refl}
 use Rattle.ts_spec.proofs.Samples.{at-time}
 use Rattle.ts_spec.proofs.ShownAfter.{tells}
-use Rattle.ts_spec.proofs.Mends.{IsMending}
+use Rattle.ts_spec.proofs.Mends.{IsUpdate}
 use Rattle.ts_spec.proofs.WrittenCounts.{open-raised, members-none, counted_by, members-other, members-anew, at-written}
 use Rattle.ts_spec.proofs.WrittenRules.{by-before, by-here, by-past}
 use Rattle.ts_spec.proofs.BucketRows.{row_over, at-bucket, tells-row, any-at, unmet, closed, unclosed, here-only, here-same, or-none}
@@ -49,8 +49,8 @@ module _ (t : ℕ) (v : ℤ) (d : Record) (own : IsSound d) (r : Rule) (s : IsSo
       let at_most : start r.grid u ≤ start r.grid h = start-order r.grid u h (omega arith) in absurd (omega arith))
 
   -- the stored rule, by its highest time
-  abbrev kept_by : Option ℕ → KeptRule
-  kept_by top = record (kept_rule r) { current = option_map (start r.grid) top; running = summary_at r (option_map (start r.grid) top) }
+  abbrev kept_by : Option ℕ → StoredRule
+  kept_by top = record (stored_rule r) { current = option_map (start r.grid) top; running = summary_at r (option_map (start r.grid) top) }
 
   -- the rows, by its highest time
   abbrev rows_by : Option ℕ → List Point
@@ -141,7 +141,7 @@ module _ (t : ℕ) (v : ℤ) (d : Record) (own : IsSound d) (r : Rule) (s : IsSo
           ]
 
   -- the row at a time
-  told-after : (c : ℕ) → tells (counted_by t v d r) born c ≡ option_or (at c (written_row (sample_for t v d) (put (sample_for t v d) d.plain) born (kept_rule r))) (tells r born c)
+  told-after : (c : ℕ) → tells (counted_by t v d r) born c ≡ option_or (at c (written_row (sample_for t v d) (put (sample_for t v d) d.plain) born (stored_rule r))) (tells r born c)
   told-after c = tells-after c ∙ go r.top refl ∙ ap (option_or (at c (rows_by r.top))) (sym (tells-row r born c))
     where
       go : (top : Option ℕ) → r.top ≡ top →
@@ -155,7 +155,7 @@ module _ (t : ℕ) (v : ℤ) (d : Record) (own : IsSound d) (r : Rule) (s : IsSo
       go (Some h) e = at-each h c e
 
   -- without a row, the destination loses no own sample
-  lost-none : (key : Key) (c : ℕ) → at c (written_row (sample_for t v d) (put (sample_for t v d) d.plain) born (kept_rule r)) ≡ None →
+  lost-none : (key : Key) (c : ℕ) → at c (written_row (sample_for t v d) (put (sample_for t v d) d.plain) born (stored_rule r)) ≡ None →
       lost_by key (write_touches t d.high) (Some (record { source = key; rule = counted_by t v d r })) c ≡ false
   lost-none key c none =
       ap (λ (b : Bool). b && (write_touches t d.high (counted_by t v d r) c && is_closed (counted_by t v d r) c)) (same-refl key)
@@ -173,6 +173,6 @@ module _ (t : ℕ) (v : ℤ) (d : Record) (own : IsSound d) (r : Rule) (s : IsSo
               cc one
 
   -- The rows of a write update a destination of the rule.
-  pub write-mends : (key : Key) → IsMending r (counted_by t v d r) born (lost_by key (write_touches t d.high) (Some (record { source = key; rule = counted_by t v d r }))) (λ b. false)
-      (written_row (sample_for t v d) (put (sample_for t v d) d.plain) born (kept_rule r))
+  pub write-mends : (key : Key) → IsUpdate r (counted_by t v d r) born (lost_by key (write_touches t d.high) (Some (record { source = key; rule = counted_by t v d r }))) (λ b. false)
+      (written_row (sample_for t v d) (put (sample_for t v d) d.plain) born (stored_rule r))
   write-mends key = record { told = told-after; own = lost-none key }

@@ -21,18 +21,18 @@ abbrev pub nothing : Summary
 nothing = record { count = 0; sum = pos 0; least = pos 0; greatest = pos 0; first = pos 0; last = pos 0 }
 
 -- `new` if no value came before (the count is 0), else `old`
-abbrev pub kept_unless_first : ℕ → ℤ → ℤ → ℤ
-kept_unless_first zero old new = new
-kept_unless_first (suc n) old new = old
+abbrev pub old_unless_first : ℕ → ℤ → ℤ → ℤ
+old_unless_first zero old new = new
+old_unless_first (suc n) old new = old
 
 -- the summary after appending one sample
 abbrev pub push : Summary → Point → Summary
 push s p = record {
   count = s.count + 1;
   sum = s.sum +ℤ p.value;
-  least = kept_unless_first s.count (if int_lt p.value s.least then p.value else s.least) p.value;
-  greatest = kept_unless_first s.count (if int_lt s.greatest p.value then p.value else s.greatest) p.value;
-  first = kept_unless_first s.count s.first p.value;
+  least = old_unless_first s.count (if int_lt p.value s.least then p.value else s.least) p.value;
+  greatest = old_unless_first s.count (if int_lt s.greatest p.value then p.value else s.greatest) p.value;
+  first = old_unless_first s.count s.first p.value;
   last = p.value;
 }
 

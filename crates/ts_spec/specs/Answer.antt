@@ -22,27 +22,27 @@ abbrev pub row_of : Point → Row
 row_of p = record { time = p.time; value = Number p.value }
 
 -- whether the list contains this time
-abbrev pub is_listed : List ℕ → ℕ → Bool
-is_listed [] t = false
-is_listed (u ∷ us) t = (u == t) || is_listed us t
+abbrev pub contains_time : List ℕ → ℕ → Bool
+contains_time [] t = false
+contains_time (u ∷ us) t = (u == t) || contains_time us t
 
 -- whether FILTER_BY_TS lets this time pass; without the option every time passes
-abbrev pub lets_time : Option (List ℕ) → ℕ → Bool
-lets_time None t = true
-lets_time (Some times) t = is_listed times t
+abbrev pub passes_time_filter : Option (List ℕ) → ℕ → Bool
+passes_time_filter None t = true
+passes_time_filter (Some times) t = contains_time times t
 
 -- whether FILTER_BY_VALUE lets this value pass; without the option every value passes
-abbrev pub lets_value : Option Span → ℤ → Bool
-lets_value None v = true
-lets_value (Some span) v = int_le span.least v && int_le v span.greatest
+abbrev pub passes_value_filter : Option Span → ℤ → Bool
+passes_value_filter None v = true
+passes_value_filter (Some span) v = int_le span.least v && int_le v span.greatest
 
 -- whether a sample passes both filters
-abbrev pub is_let_through : Query → Point → Bool
-is_let_through q p = lets_time q.times p.time && lets_value q.values p.value
+abbrev pub passes_filters : Query → Point → Bool
+passes_filters q p = passes_time_filter q.times p.time && passes_value_filter q.values p.value
 
 -- the samples of the interval that pass both filters
 abbrev pub selected : Query → List Point → List Point
-selected q asked = filter (is_let_through q) (between q.from q.to asked)
+selected q asked = filter (passes_filters q) (between q.from q.to asked)
 
 -- the value of the last sample, or NaN if there is none
 abbrev pub last_value : Option Point → Cell
@@ -70,15 +70,15 @@ abbrev pub starts_between : Grid → (lo hi : ℕ) → List ℕ
 starts_between g lo hi = if nat_le lo hi then starts_from g (raw g lo) (nat_abs (raw g hi -ℤ raw g lo) / g.duration) else []
 
 -- with EMPTY, the starts of all buckets between the first and the last sample of the series, within the interval
-abbrev pub ends_between : Grid → (from to : ℕ) → Option Point → Option Point → List ℕ
-ends_between g from to None last = []
-ends_between g from to (Some p) None = []
-ends_between g from to (Some p) (Some q) = starts_between g (max from p.time) (min to q.time)
+abbrev pub starts_with_empty : Grid → (from to : ℕ) → Option Point → Option Point → List ℕ
+starts_with_empty g from to None last = []
+starts_with_empty g from to (Some p) None = []
+starts_with_empty g from to (Some p) (Some q) = starts_between g (max from p.time) (min to q.time)
 
--- the starts of the buckets that get a row: those with samples, or with EMPTY those of `ends_between`
+-- the starts of the buckets that get a row: those with samples, or with EMPTY those of `starts_with_empty`
 abbrev pub starts_of_rows : Query → Buckets → (asked chosen : List Point) → List ℕ
 starts_of_rows q bs asked chosen =
-    if bs.empty then ends_between bs.grid q.from q.to (first_of asked) (last_of asked) else starts bs.grid chosen
+    if bs.empty then starts_with_empty bs.grid q.from q.to (first_of asked) (last_of asked) else starts bs.grid chosen
 
 -- all rows, oldest first, without a limit
 abbrev pub rows_of : Option Buckets → Query → List Point → List Row
@@ -86,24 +86,24 @@ rows_of None q asked = map row_of (selected q asked)
 rows_of (Some bs) q asked = map (bucket_row bs asked (selected q asked)) (starts_of_rows q bs asked (selected q asked))
 
 -- the rows, newest first if `reverse` is set
-abbrev pub turned : Bool → List Row → List Row
-turned true rows = reverse rows
-turned false rows = rows
+abbrev pub in_requested_order : Bool → List Row → List Row
+in_requested_order true rows = reverse rows
+in_requested_order false rows = rows
 
 -- at most `count` rows from the front
-abbrev pub first_ones : Option ℕ → List Row → List Row
-first_ones None rows = rows
-first_ones (Some n) rows = take n rows
+abbrev pub limit_rows : Option ℕ → List Row → List Row
+limit_rows None rows = rows
+limit_rows (Some n) rows = take n rows
 
 -- the rows of a query: in the requested order, then cut to COUNT
 abbrev pub rows : Query → List Point → List Row
-rows q asked = first_ones q.count (turned q.reverse (rows_of q.buckets q asked))
+rows q asked = limit_rows q.count (in_requested_order q.reverse (rows_of q.buckets q asked))
 
 -- whether EMPTY is set
-abbrev pub tells_empty : Option Buckets → Bool
-tells_empty None = false
-tells_empty (Some bs) = bs.empty
+abbrev pub includes_empty : Option Buckets → Bool
+includes_empty None = false
+includes_empty (Some bs) = bs.empty
 
 -- the rows of a query, or `None` if EMPTY is set and they exceed the limit
 abbrev pub answer : (limit : ℕ) → Query → List Point → Option (List Row)
-answer limit q asked = if tells_empty q.buckets && nat_lt limit (length (rows q asked)) then None else Some (rows q asked)
+answer limit q asked = if includes_empty q.buckets && nat_lt limit (length (rows q asked)) then None else Some (rows q asked)

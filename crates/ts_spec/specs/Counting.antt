@@ -9,13 +9,13 @@ abbrev pub is_eligible : Rule → Point → Bool
 is_eligible r p = nat_le r.made p.made
 
 -- the eligible samples of the source in the buckets whose starts pass the test
-abbrev pub taken_anew : (ℕ → Bool) → List Point → Rule → List Point
-taken_anew test plain r = filter (is_eligible r) (at_times (λ t. test (start r.grid t)) plain)
+abbrev pub eligible_in : (ℕ → Bool) → List Point → Rule → List Point
+eligible_in test plain r = filter (is_eligible r) (at_times (λ t. test (start r.grid t)) plain)
 
 -- Recounts buckets: in those whose starts pass the test, the counted samples become the eligible samples that the
 -- source has there now.
 abbrev pub touched : (ℕ → Bool) → List Point → Rule → List Point
-touched test plain r = put_all (taken_anew test plain r) (at_times (λ t. not (test (start r.grid t))) r.seen)
+touched test plain r = put_all (eligible_in test plain r) (at_times (λ t. not (test (start r.grid t))) r.seen)
 
 -- the greater of a time and the highest time so far
 abbrev pub raised : ℕ → Option ℕ → Option ℕ

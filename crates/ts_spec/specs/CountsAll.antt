@@ -25,7 +25,7 @@ retention_at None = 0
 retention_at (Some d) = d.options.retention
 
 -- a rule connects the two keys, and neither series has a retention
-pub record JoinsForEver (m : State) (source dest : Key) (r : Rule) : Type 0 where
+pub record LinksWithoutRetention (m : State) (source dest : Key) (r : Rule) : Type 0 where
   pub linked : link_to m dest ≡ Some (record { source = source; rule = r })
   pub source_for_ever : retention_at (get source m) ≡ 0
   pub dest_for_ever : retention_at (get dest m) ≡ 0

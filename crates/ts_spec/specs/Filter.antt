@@ -7,9 +7,9 @@ use Rattle.ts_spec.specs.State.{Label, Record, State}
 -- A filter on one label.
 pub data Filter : Type 0 where
   -- the series has the label with one of these values
-  Among : (label : List ℕ) → (values : List (List ℕ)) → Filter
+  OneOf : (label : List ℕ) → (values : List (List ℕ)) → Filter
   -- the series lacks the label, or has another value
-  NotAmong : (label : List ℕ) → (values : List (List ℕ)) → Filter
+  NoneOf : (label : List ℕ) → (values : List (List ℕ)) → Filter
   -- the series lacks the label
   Absent : (label : List ℕ) → Filter
   -- the series has the label
@@ -21,19 +21,19 @@ value_of name [] = None
 value_of name (l ∷ ls) = if same l.name name then Some l.value else value_of name ls
 
 -- whether the value is in the list
-abbrev pub is_among : List (List ℕ) → List ℕ → Bool
-is_among [] value = false
-is_among (v ∷ vs) value = same v value || is_among vs value
+abbrev pub is_one_of : List (List ℕ) → List ℕ → Bool
+is_one_of [] value = false
+is_one_of (v ∷ vs) value = same v value || is_one_of vs value
 
 -- whether the series has the label with one of these values
 abbrev pub has_one_of : List (List ℕ) → Option (List ℕ) → Bool
 has_one_of values None = false
-has_one_of values (Some value) = is_among values value
+has_one_of values (Some value) = is_one_of values value
 
 -- whether a series with these labels passes the filter
 abbrev pub holds : Filter → List Label → Bool
-holds (Among label values) labels = has_one_of values (value_of label labels)
-holds (NotAmong label values) labels = not (has_one_of values (value_of label labels))
+holds (OneOf label values) labels = has_one_of values (value_of label labels)
+holds (NoneOf label values) labels = not (has_one_of values (value_of label labels))
 holds (Absent label) labels = not (is_some (value_of label labels))
 holds (Present label) labels = is_some (value_of label labels)
 
@@ -44,7 +44,7 @@ all_hold (f ∷ fs) labels = holds f labels && all_hold fs labels
 
 -- whether a filter requires a value; a query needs at least one filter that does
 abbrev pub is_positive : Filter → Bool
-is_positive (Among label values) = true
+is_positive (OneOf label values) = true
 is_positive other = false
 
 -- whether at least one filter requires a value

@@ -1,6 +1,6 @@
 -- The syntax of label filters: `label=value`, `label!=value`, and lists such as `label=(a,b)`.
 use Rattle.std.specs.Prelude.{ℕ, Bool, true, false, ◌==◌, if◌then◌else◌, List, [], ◌∷◌, Option, Some, None, option_map, Result, Ok, Err}
-use Rattle.ts_spec.specs.Filter.{Filter, Among, NotAmong, Absent, Present}
+use Rattle.ts_spec.specs.Filter.{Filter, OneOf, NoneOf, Absent, Present}
 
 -- why a text is not a valid filter
 pub data FilterFault : Type 0 where
@@ -79,9 +79,9 @@ values_of (c ∷ cs) = if c == opening then bracketed (c ∷ cs) (before_last cl
 -- the filter on a label with these values; without values, it tests only whether the series has the label
 abbrev pub filter_by : (positive : Bool) → (label : List ℕ) → List (List ℕ) → Filter
 filter_by true label [] = Absent label
-filter_by true label (v ∷ vs) = Among label (v ∷ vs)
+filter_by true label (v ∷ vs) = OneOf label (v ∷ vs)
 filter_by false label [] = Present label
-filter_by false label (v ∷ vs) = NotAmong label (v ∷ vs)
+filter_by false label (v ∷ vs) = NoneOf label (v ∷ vs)
 
 -- the filter on a label, or the fault in its values
 abbrev pub with_values : (positive : Bool) → (label : List ℕ) → Result (List (List ℕ)) FilterFault → Result Filter FilterFault

@@ -9,9 +9,9 @@ use Rattle.ts_spec.specs.Keyed.{get}
 use Rattle.ts_spec.specs.State.{Label, State}
 use Rattle.ts_spec.specs.Filter.{value_of}
 use Rattle.ts_spec.specs.Command.{Query, Show, GroupBy}
-use Rattle.ts_spec.specs.Answer.{Cell, Number, Nan, Row, turned, first_ones, answer}
+use Rattle.ts_spec.specs.Answer.{Cell, Number, Nan, Row, in_requested_order, limit_rows, answer}
 use Rattle.ts_spec.specs.Response.{Member, Response}
-use Rattle.ts_spec.specs.Questions.{asked, labels_shown, labels_at, members_of, members_response}
+use Rattle.ts_spec.specs.Queries.{asked, labels_shown, labels_at, members_of, members_response}
 use Rattle.ts_spec.specs.Replies.{aggregator_name}
 
 -- a series with its labels, and the rows that a query has from it
@@ -102,7 +102,7 @@ abbrev pub group : GroupBy → Show → (count : Option ℕ) → (reverse : Bool
 group by show count reverse value ms = record {
   key = by.label ++ codes "=" ++ value;
   labels = labels_shown show (group_labels by value ms);
-  rows = first_ones count (turned reverse (reduced_rows by.reducer (flat_map (λ m. m.rows) ms)));
+  rows = limit_rows count (in_requested_order reverse (reduced_rows by.reducer (flat_map (λ m. m.rows) ms)));
 }
 
 -- The groups of series, in ascending order of their values. Series without the label are left out.

@@ -7,8 +7,8 @@ use Rattle.ts_spec.specs.declared.series.Policy.TheVariants.{Last}
 use Rattle.ts_spec.specs.Sample.{Point, last_of}
 use Rattle.ts_spec.specs.Key.{Key}
 use Rattle.ts_spec.specs.State.{Record, State, link_to}
-use Rattle.ts_spec.specs.Shown.{shown}
-use Rattle.ts_spec.specs.Kept.{Kept}
+use Rattle.ts_spec.specs.ShownSamples.{shown}
+use Rattle.ts_spec.specs.StoredSeries.{StoredSeries}
 
 -- whether the policy is LAST, which overwrites the old value
 abbrev pub is_last : Policy → Bool
@@ -35,5 +35,5 @@ abbrev pub ignored : State → Key → Record → (time : ℕ) → (value : ℤ)
 ignored m key d t v = if is_some (link_to m key) then None else ignored_after d.options (last_of (shown m key)) t v
 
 -- the same for a stored series
-abbrev pub kept_ignored : Kept → (time : ℕ) → (value : ℤ) → Option ℕ
-kept_ignored d t v = if is_some d.source then None else ignored_after d.options (last_of d.list) t v
+abbrev pub stored_ignored : StoredSeries → (time : ℕ) → (value : ℤ) → Option ℕ
+stored_ignored d t v = if is_some d.source then None else ignored_after d.options (last_of d.list) t v

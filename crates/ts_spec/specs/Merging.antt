@@ -11,7 +11,7 @@ use Rattle.ts_spec.specs.Refusal.{Refusal, Duplicate, OutOfRange}
 pub data Merged : Type 0 where
   Refuse : Refusal → Merged
   -- the old value stays
-  Keep : Merged
+  KeepOld : Merged
   -- this value is written
   To : ℤ → Merged
 
@@ -22,10 +22,10 @@ within_bound v = if nat_le (unsigned_abs v) bound then To v else Refuse OutOfRan
 -- merges two values by a policy
 abbrev pub merge_by : Policy → (old new : ℤ) → Merged
 merge_by Block old new = Refuse Duplicate
-merge_by First old new = Keep
+merge_by First old new = KeepOld
 merge_by Last old new = To new
-merge_by Min old new = if int_lt new old then To new else Keep
-merge_by Max old new = if int_lt old new then To new else Keep
+merge_by Min old new = if int_lt new old then To new else KeepOld
+merge_by Max old new = if int_lt old new then To new else KeepOld
 merge_by Sum old new = within_bound (old +ℤ new)
 
 -- merges a new value with the old one, if there is one

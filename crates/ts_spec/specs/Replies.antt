@@ -16,13 +16,13 @@ use Rattle.ts_spec.specs.Text.{Reply, Simple, Error, Int, Value, Bulk, Nil, Arra
 use Rattle.ts_spec.specs.Text as text
 
 -- a sequence of replies
-abbrev pub listed : List Reply → Replies
-listed [] = Empty
-listed (reply ∷ others) = text.Replies.Item reply (listed others)
+abbrev pub reply_list : List Reply → Replies
+reply_list [] = Empty
+reply_list (reply ∷ others) = text.Replies.Item reply (reply_list others)
 
 -- an array reply
 abbrev pub array : List Reply → Reply
-array items = Array (listed items)
+array items = Array (reply_list items)
 
 -- an integer reply: a time in milliseconds or a count
 abbrev pub number : ℕ → Reply
@@ -159,6 +159,6 @@ reply_to (response.LastRow row) = last_row_reply row
 reply_to (response.Members members) = array (map member_reply members)
 reply_to (response.LastRows members) = array (map last_member_reply members)
 reply_to (response.Keys keys) = array (map (λ key. Bulk key) keys)
-reply_to (response.Told info) = info_reply info
+reply_to (response.KeyInfo info) = info_reply info
 reply_to response.Pong = Simple (codes "PONG")
 reply_to (response.Word word) = Bulk word

@@ -58,7 +58,7 @@ pub data Response : Type 0 where
   -- members with at most one row
   LastRows : List Member → Response
   Keys : List Key → Response
-  Told : Info → Response
+  KeyInfo : Info → Response
   Pong : Response
   -- a word sent back
   Word : List ℕ → Response

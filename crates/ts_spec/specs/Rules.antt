@@ -5,9 +5,9 @@ use Rattle.ts_spec.specs.Bucket.{start, starts}
 use Rattle.ts_spec.specs.Key.{Key, same}
 use Rattle.ts_spec.specs.Keyed.{get, each, without_key}
 use Rattle.ts_spec.specs.State.{Rule, Record, State, Link, link_to, rule_into, change, edge}
-pub use Rattle.ts_spec.specs.Counting.{is_eligible, taken_anew, touched, raised, is_append, counted_samples, counted, write_touches, list_any, meets}
-pub use Rattle.ts_spec.specs.Merging.{within_bound, merge_by, merge, Merged, Refuse, Keep, To}
-pub use Rattle.ts_spec.specs.Shown.{open_of, is_past, is_closed, has_any, has_members, has_row_of, bucket_sample, closed_rows, shown_by, opened, latest_by, shown_at, latest_at, shown, latest}
+pub use Rattle.ts_spec.specs.Counting.{is_eligible, eligible_in, touched, raised, is_append, counted_samples, counted, write_touches, list_any, meets}
+pub use Rattle.ts_spec.specs.Merging.{within_bound, merge_by, merge, Merged, Refuse, KeepOld, To}
+pub use Rattle.ts_spec.specs.ShownSamples.{open_of, is_past, is_closed, has_any, has_members, has_row_of, bucket_sample, closed_rows, shown_by, opened, latest_by, shown_at, latest_at, shown, latest}
 
 -- ---- parts of a command
 

@@ -6,34 +6,34 @@ use Rattle.ts_spec.specs.Command.{Command, Quit}
 use Rattle.ts_spec.specs.Refusal.{Fault}
 use Rattle.ts_spec.specs.Grammar.{command}
 
--- `turn` relates the world before a request, the request, its reply, and the world after it.
-module _ {World : Type 0} (turn : World → Request → List ℕ → World → Type 0) where
+-- `handles` relates the world before a request, the request, its reply, and the world after it.
+module _ {World : Type 0} (handles : World → Request → List ℕ → World → Type 0) where
   -- the first request is handled, and the rest of the output comes from the requests after it
-  pub record TurnThen (from : World) (request : Request) (later : World → List ℕ → Type 0) (text : List ℕ) : Type 0 where
+  pub record HandledThen (from : World) (request : Request) (later : World → List ℕ → Type 0) (text : List ℕ) : Type 0 where
     pub first : List ℕ
     pub rest : List ℕ
     pub mid : World
     pub split : text ≡ first ++ rest
-    pub here : turn from request first mid
+    pub here : handles from request first mid
     pub after : later mid rest
 
   -- all requests are handled in order, and together they write the text
   abbrev pub Runs : World → List Request → List ℕ → World → Type 0
   Runs from [] text to = (text ≡ []) × (to ≡ from)
-  Runs from (request ∷ requests) text to = TurnThen from request (λ mid rest. Runs mid requests rest to) text
+  Runs from (request ∷ requests) text to = HandledThen from request (λ mid rest. Runs mid requests rest to) text
 
 -- a request of a stream, and the byte offset after it
-pub record Placed : Type 0 where
+pub record LocatedRequest : Type 0 where
   pub request : Request
   pub after : ℕ
 
 -- a stream that begins with these requests
-abbrev pub then_all : List Placed → Stream → Stream
+abbrev pub then_all : List LocatedRequest → Stream → Stream
 then_all [] rest = rest
 then_all (placed ∷ more) rest = Then placed.request placed.after (then_all more rest)
 
 -- the requests without their offsets
-abbrev pub requests_in : List Placed → List Request
+abbrev pub requests_in : List LocatedRequest → List Request
 requests_in done = map (λ p. p.request) done
 
 -- ---- QUIT

@@ -10,7 +10,7 @@ use Rattle.ts_spec.specs.Command.{Command, Create, Alter, Add, Madd, Incr, DelRa
 use Rattle.ts_spec.specs.Response.{Done, Count, LastRows, Keys, Word}
 pub use Rattle.ts_spec.specs.Making.{fresh, new_key, create, altered, is_longer, alter_at, alter, with_rule, has_rules, ruled, create_rule_at, create_rule, delete_rule_at, delete_rule, drop_keys, count_there}
 pub use Rattle.ts_spec.specs.Outcome.{refused, answer_only, time_of, Outcome}
-pub use Rattle.ts_spec.specs.Questions.{asked, rows_response, range_response, shown_label, picked_label, labels_shown, labels_at, member, member_then, members_of, members_response, last_row, row_list, last_response, last_member, rule_info, time_or_0, info_of, info_response, ping_response}
+pub use Rattle.ts_spec.specs.Queries.{asked, rows_response, range_response, shown_label, picked_label, labels_shown, labels_at, member, member_then, members_of, members_response, last_row, row_list, last_response, last_member, rule_info, time_or_0, info_of, info_response, ping_response}
 pub use Rattle.ts_spec.specs.Groups.{ranges_response}
 pub use Rattle.ts_spec.specs.Writing.{shows_more, first_full, rules_at, unless_full, within_destinations, within_samples, write_merged, value_at, unless_ignored, write, create_with, add_at, add, put_at, put_own, triple_step, item_of, madd, is_before_last, changed_value, increased, incr_by, incr_at, incr, meets_expired, delete_at, delete}
 

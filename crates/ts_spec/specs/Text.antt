@@ -75,13 +75,13 @@ abbrev mutual
   ArePlain (Item reply replies) = IsPlain reply × ArePlain replies
 
 -- the message of a protocol error
-abbrev pub fault_words : Kind → List ℕ
-fault_words kind.Multibulk = codes "ERR Protocol error: invalid multibulk length"
-fault_words kind.Bulk = codes "ERR Protocol error: invalid bulk length"
-fault_words kind.Dollar = codes "ERR Protocol error: expected '$'"
-fault_words kind.Crlf = codes "ERR Protocol error: expected CRLF"
-fault_words kind.TooLarge = codes "ERR Protocol error: request too large"
+abbrev pub protocol_message : Kind → List ℕ
+protocol_message kind.Multibulk = codes "ERR Protocol error: invalid multibulk length"
+protocol_message kind.Bulk = codes "ERR Protocol error: invalid bulk length"
+protocol_message kind.Dollar = codes "ERR Protocol error: expected '$'"
+protocol_message kind.Crlf = codes "ERR Protocol error: expected CRLF"
+protocol_message kind.TooLarge = codes "ERR Protocol error: request too large"
 
 -- the error reply to a protocol error
-abbrev pub fault_text : Kind → List ℕ
-fault_text kind = text (Error (fault_words kind))
+abbrev pub protocol_error_text : Kind → List ℕ
+protocol_error_text kind = text (Error (protocol_message kind))

@@ -2,7 +2,7 @@
 use Rattle.std.specs.Prelude.{ℕ, ◌+◌, List, [], ◌∷◌, length}
 use Rattle.ts_spec.specs.Keyed.{Entry}
 use Rattle.ts_spec.specs.State.{Record, State}
-use Rattle.ts_spec.specs.Shown.{shown}
+use Rattle.ts_spec.specs.ShownSamples.{shown}
 
 -- the samples that these keys show, added up
 abbrev pub shown_in : State → List (Entry Record) → ℕ

@@ -130,8 +130,8 @@ pub data Move : Type 0 where
   Fault : Kind → Move
 
 -- the move if the byte is the expected one, else a fault
-abbrev pub want : ℕ → ℕ → Kind → Move → Move
-want byte wanted kind move = if byte == wanted then move else Fault kind
+abbrev pub expect_byte : ℕ → ℕ → Kind → Move → Move
+expect_byte byte wanted kind move = if byte == wanted then move else Fault kind
 
 -- the move after the word count
 abbrev pub after_count : WireLimits → ℕ → Move
@@ -176,13 +176,13 @@ abbrev pub move : WireLimits → Mode → ℕ → Move
 move limits Start byte = if byte == STAR then Goto (Count Blank) else on_text limits [] byte
 move limits (Text line) byte = on_text limits line byte
 move limits (Count line) byte = on_count (line_step limits.words true line byte)
-move limits (CountFeed n) byte = want byte FEED Crlf (after_count limits n)
-move limits (Mark so_far) byte = want byte DOLLAR Dollar (Goto (Length so_far Blank))
+move limits (CountFeed n) byte = expect_byte byte FEED Crlf (after_count limits n)
+move limits (Mark so_far) byte = expect_byte byte DOLLAR Dollar (Goto (Length so_far Blank))
 move limits (Length so_far line) byte = on_length so_far (line_step limits.word_bytes false line byte)
-move limits (LengthFeed so_far n) byte = want byte FEED Crlf (Goto (after_length so_far n))
+move limits (LengthFeed so_far n) byte = expect_byte byte FEED Crlf (Goto (after_length so_far n))
 move limits (Body so_far n bytes) byte = Goto (on_body so_far (n - 1) (bytes ++ byte ∷ []))
-move limits (WordReturn so_far bytes) byte = want byte RETURN Crlf (Goto (WordFeed so_far bytes))
-move limits (WordFeed so_far bytes) byte = want byte FEED Crlf (after_word (so_far.words ++ bytes ∷ []) so_far.later so_far.room)
+move limits (WordReturn so_far bytes) byte = expect_byte byte RETURN Crlf (Goto (WordFeed so_far bytes))
+move limits (WordFeed so_far bytes) byte = expect_byte byte FEED Crlf (after_word (so_far.words ++ bytes ∷ []) so_far.later so_far.room)
 
 -- how a stream ends in a mode; `begin` is the offset of the current request
 abbrev pub at_end : Mode → ℕ → Stream

@@ -10,7 +10,7 @@ use Rattle.ts_spec.specs.Bucket.{start}
 use Rattle.ts_spec.specs.Key.{Key}
 use Rattle.ts_spec.specs.Keyed.{get}
 use Rattle.ts_spec.specs.State.{Rule, Record, State, change, edge}
-use Rattle.ts_spec.specs.Rules.{shown, Merged, Refuse, Keep, To, merge, within_bound, written, deleted}
+use Rattle.ts_spec.specs.Rules.{shown, Merged, Refuse, KeepOld, To, merge, within_bound, written, deleted}
 use Rattle.ts_spec.specs.Refusal.{Fault, NoKey, TooOld, BeforeLast, SamplesFull, DestinationFull, DeleteBeyondRetention}
 use Rattle.ts_spec.specs.declared.command.At.{At}
 use Rattle.ts_spec.specs.Command.{Spec, Triple}
@@ -52,7 +52,7 @@ within_samples limits m key done =
 -- the outcome of a write after it was merged with the old value at its time
 abbrev pub write_merged : Limits → State → Key → ℕ → Merged → Outcome
 write_merged limits m key t (Refuse refusal) = refused m refusal
-write_merged limits m key t Keep = answer_only m (Count t)
+write_merged limits m key t KeepOld = answer_only m (Count t)
 write_merged limits m key t (To v) = within_samples limits m key (record { state = written key t v m; response = Count t })
 
 -- the value at a time

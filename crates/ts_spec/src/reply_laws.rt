@@ -4,7 +4,7 @@ ghost use Rattle.std.specs.Prelude.{◌≢◌, ◌<◌, ◌^◌, List, length, A
 ghost use Rattle.ts_spec.specs.declared.wire.Kind.{Kind};
 ghost use Rattle.ts_spec.specs.Refusal.{Fault};
 ghost use Rattle.ts_spec.specs.Response.{Item, Response};
-ghost use Rattle.ts_spec.specs.Text.{Reply, Error, IsPlain, text, fault_words, fault_text};
+ghost use Rattle.ts_spec.specs.Text.{Reply, Error, IsPlain, text, protocol_message, protocol_error_text};
 ghost use Rattle.ts_spec.specs.Replies.{array, fault_reply, memory_reply, item_reply, reply_to, IsItemReply};
 
 /// Every reply of the server is plain: each error, and each other reply whose text is shorter than 2^64 bytes, as
@@ -15,20 +15,20 @@ pub fn replies_are_plain()
         → IsPlain (array items) }
     ensures faults { (fault : Fault) → IsPlain (fault_reply fault) }
     ensures memory { IsPlain memory_reply }
-    ensures protocol { (kind : Kind) → IsPlain (Error (fault_words kind)) }
+    ensures protocol { (kind : Kind) → IsPlain (Error (protocol_message kind)) }
 {}
 
 /// No other reply, and no other item of TS.MADD, has the text of the out-of-memory error.
-pub fn want_of_memory_shows_as_such()
+pub fn the_memory_error_is_unique()
     ensures responses { (r : Response) → text (reply_to r) ≢ text memory_reply }
     ensures triples { (item : Item) → text (item_reply item) ≢ text memory_reply }
     ensures faults { (fault : Fault) → text (fault_reply fault) ≢ text memory_reply }
-    ensures protocol { (kind : Kind) → fault_text kind ≢ text memory_reply }
+    ensures protocol { (kind : Kind) → protocol_error_text kind ≢ text memory_reply }
 {}
 
 /// The text of a reply is self-delimiting. If the texts of two replies are prefixes of the same bytes, they are
 /// equal, so no text is a proper prefix of another. The text of an array determines the texts of its items.
-pub fn reply_texts_show_their_ends()
+pub fn reply_texts_are_self_delimiting()
     ensures ends { (a b : Reply) (x y : List ℕ) → IsPlain a → IsPlain b
         → text a ++ x ≡ text b ++ y → (text a ≡ text b) × (x ≡ y) }
     ensures front { (a b : Reply) (rest : List ℕ) → IsPlain a → IsPlain b

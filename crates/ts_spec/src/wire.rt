@@ -2,7 +2,7 @@
 ghost use Rattle.std.specs.Prelude.{◌≡◌, ℕ, ◌+◌, List, ◌++◌, length, All};
 ghost use Rattle.ts_spec.specs.Wire.{Request, Ended, stream_at, requests_of, ending_of};
 ghost use Rattle.ts_spec.specs.Encoded.{encoded, Fits};
-ghost use Rattle.ts_spec.specs.Fronts.{IsFront, IsWithin, then_on};
+ghost use Rattle.ts_spec.specs.StreamPrefixes.{IsStreamPrefix, IsWithin, continued_by};
 
 /// A protocol error.
 #[derive(Clone, Copy, Debug, PartialEq, Eq)]
@@ -47,14 +47,14 @@ pub fn requests_of_a_stream_are_within_its_limits(limits: WireLimits)
 {}
 
 /// The requests of a prefix of a stream are its first requests. A broken stream stays broken, whatever bytes follow.
-pub fn a_front_of_a_stream_stays(limits: WireLimits)
+pub fn a_stream_prefix_stays(limits: WireLimits)
     ensures { (place : ℕ) (bytes more : List ℕ)
-        → IsFront (stream_at limits place bytes) (stream_at limits place (bytes ++ more)) }
+        → IsStreamPrefix (stream_at limits place bytes) (stream_at limits place (bytes ++ more)) }
 {}
 
 /// If a stream ends between two requests, the bytes after it parse as a stream of their own.
 pub fn streams_concatenate_after_whole_requests(limits: WireLimits)
     ensures { (place : ℕ) (bytes more : List ℕ) → ending_of (stream_at limits place bytes) ≡ Ended
         → stream_at limits place (bytes ++ more)
-        ≡ then_on (stream_at limits place bytes) (stream_at limits (place + length bytes) more) }
+        ≡ continued_by (stream_at limits place bytes) (stream_at limits (place + length bytes) more) }
 {}

@@ -26,30 +26,30 @@ abbrev pub ended : List ℕ → List ℕ
 ended text = text ++ 10 ∷ []
 
 -- the line for a status, with the byte offset of a stream's fault; success has none
-abbrev pub line_of : Status → (place : ℕ) → List ℕ
-line_of status.Ended place = []
-line_of status.Usage place = ended (codes "usage: tsd pipe | tsd serve <address> <connections> | tsd gen <seed> <n> | tsd keep <file> | tsd mux")
-line_of status.Truncated place = ended (codes "tsd: input ends inside a request that begins at byte " ++ decimal place)
-line_of status.Protocol place = ended (codes "tsd: protocol fault at byte " ++ decimal place)
-line_of status.ReadFault place = ended (codes "tsd: read fault")
-line_of status.WriteFault place = ended (codes "tsd: write fault")
-line_of status.Memory place = ended (codes "tsd: out of memory")
-line_of status.AcceptFault place = ended (codes "tsd: accept fault")
-line_of status.Budget place = ended (codes "tsd: budget of bytes used up")
-line_of status.JournalFault place = ended (codes "tsd: journal fault")
-line_of status.JournalBroken place = ended (codes "tsd: journal broken at byte " ++ decimal place)
-line_of status.CaptureBroken place = ended (codes "tsd: capture broken at byte " ++ decimal place)
+abbrev pub line_of_status : Status → (byte_offset : ℕ) → List ℕ
+line_of_status status.Ended byte_offset = []
+line_of_status status.Usage byte_offset = ended (codes "usage: tsd pipe | tsd serve <address> <connections> | tsd gen <seed> <n> | tsd keep <file> | tsd mux")
+line_of_status status.Truncated byte_offset = ended (codes "tsd: input ends inside a request that begins at byte " ++ decimal byte_offset)
+line_of_status status.Protocol byte_offset = ended (codes "tsd: protocol fault at byte " ++ decimal byte_offset)
+line_of_status status.ReadFault byte_offset = ended (codes "tsd: read fault")
+line_of_status status.WriteFault byte_offset = ended (codes "tsd: write fault")
+line_of_status status.Memory byte_offset = ended (codes "tsd: out of memory")
+line_of_status status.AcceptFault byte_offset = ended (codes "tsd: accept fault")
+line_of_status status.Budget byte_offset = ended (codes "tsd: budget of bytes used up")
+line_of_status status.JournalFault byte_offset = ended (codes "tsd: journal fault")
+line_of_status status.JournalBroken byte_offset = ended (codes "tsd: journal broken at byte " ++ decimal byte_offset)
+line_of_status status.CaptureBroken byte_offset = ended (codes "tsd: capture broken at byte " ++ decimal byte_offset)
 
 -- the same for a capture, which ends inside a frame and not inside a request
-abbrev pub capture_line_of : Status → (place : ℕ) → List ℕ
-capture_line_of status.Truncated place = ended (codes "tsd: capture ends inside a frame that begins at byte " ++ decimal place)
-capture_line_of other place = line_of other place
+abbrev pub capture_line_of_status : Status → (byte_offset : ℕ) → List ℕ
+capture_line_of_status status.Truncated byte_offset = ended (codes "tsd: capture ends inside a frame that begins at byte " ++ decimal byte_offset)
+capture_line_of_status other byte_offset = line_of_status other byte_offset
 
 -- the line for a status in a mode, or in none
-abbrev pub line_in : Option Mode → Status → (place : ℕ) → List ℕ
-line_in (Some mode.Mux) ending place = capture_line_of ending place
-line_in (Some mode.Pipe) ending place = line_of ending place
-line_in (Some (mode.Serve connections)) ending place = line_of ending place
-line_in (Some (mode.Gen seed n)) ending place = line_of ending place
-line_in (Some mode.Keep) ending place = line_of ending place
-line_in None ending place = line_of ending place
+abbrev pub line_of_status_in : Option Mode → Status → (byte_offset : ℕ) → List ℕ
+line_of_status_in (Some mode.Mux) ending byte_offset = capture_line_of_status ending byte_offset
+line_of_status_in (Some mode.Pipe) ending byte_offset = line_of_status ending byte_offset
+line_of_status_in (Some (mode.Serve connections)) ending byte_offset = line_of_status ending byte_offset
+line_of_status_in (Some (mode.Gen seed n)) ending byte_offset = line_of_status ending byte_offset
+line_of_status_in (Some mode.Keep) ending byte_offset = line_of_status ending byte_offset
+line_of_status_in None ending byte_offset = line_of_status ending byte_offset

@@ -6,18 +6,18 @@ use Rattle.ts_words.specs.declared.lines.LinkEnd.TheVariants as end
 use Rattle.ts_words.specs.Endings.{ended}
 
 -- the word for how a connection ended
-abbrev pub word_of : LinkEnd → List ℕ
-word_of end.Ended = codes "ended"
-word_of end.Truncated = codes "truncated"
-word_of end.Protocol = codes "protocol"
-word_of end.ReadFault = codes "read-fault"
-word_of end.WriteFault = codes "write-fault"
-word_of end.Memory = codes "memory"
-word_of end.Budget = codes "budget"
+abbrev pub link_end_word : LinkEnd → List ℕ
+link_end_word end.Ended = codes "ended"
+link_end_word end.Truncated = codes "truncated"
+link_end_word end.Protocol = codes "protocol"
+link_end_word end.ReadFault = codes "read-fault"
+link_end_word end.WriteFault = codes "write-fault"
+link_end_word end.Memory = codes "memory"
+link_end_word end.Budget = codes "budget"
 
 -- the line of a connection: its number, how many of its requests were executed, and how it ended
 abbrev pub link_line_of : (link executed : ℕ) → LinkEnd → List ℕ
-link_line_of link executed how = ended (codes "link " ++ decimal link ++ codes " executed " ++ decimal executed ++ codes " " ++ word_of how)
+link_line_of link executed how = ended (codes "link " ++ decimal link ++ codes " executed " ++ decimal executed ++ codes " " ++ link_end_word how)
 
 -- a line of a name and a number
 abbrev pub summary_line : List ℕ → ℕ → List ℕ

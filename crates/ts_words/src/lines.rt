@@ -1,76 +1,94 @@
 // The lines that the program writes about itself, each into a buffer of the caller, so that no call allocates.
 ghost use Rattle.std.specs.Prelude.{◌≡◌, ◌+◌, ◌<◌, ◌≤◌, ◌++◌, length, take};
 ghost use Rattle.std.specs.Fmt.{decimal};
-ghost use Rattle.ts_words.specs.Endings.{ended, line_in};
-ghost use Rattle.ts_words.specs.Lines.{word_of, link_line_of, summary_line, summary_of};
+ghost use Rattle.ts_words.specs.Endings.{ended, line_of_status_in};
+ghost use Rattle.ts_words.specs.Lines.{link_end_word, link_line_of, summary_line, summary_of};
 
 use crate::{Mode, Status};
 use itoa::Buffer;
 
-/// Writes the line for a status into `room`, empty for success. `place` is the byte offset, from 0, where a stream
+/// Writes the line for a status into `line_buffer`, empty for success. `byte_offset` is the byte offset, from 0, where a stream
 /// breaks or where its unfinished request or frame begins. Only the mode `Mux` has a line of its own: a capture ends
 /// inside a frame.
-pub fn line(mode: Option<Mode>, status: Status, place: u64, room: &mut [u8; 160]) -> &[u8]
-    ensures { result.now ≡ line_in mode status place }
+pub fn line(
+    mode: Option<Mode>,
+    status: Status,
+    byte_offset: u64,
+    line_buffer: &mut [u8; 160],
+) -> &[u8]
+    ensures { result.now ≡ line_of_status_in mode status byte_offset }
 {
     let end = match status {
         Status::Ended => 0,
-        Status::Usage => put_line(
-            room,
+        Status::Usage => write_text_line(
+            line_buffer,
             b"usage: tsd pipe | tsd serve <address> <connections> | tsd gen <seed> <n> | tsd keep <file> | tsd mux",
         ),
-        Status::Truncated => put_truncated(mode, room, place),
-        Status::Protocol => put_place(room, b"tsd: protocol fault at byte ", place),
-        Status::ReadFault => put_line(room, b"tsd: read fault"),
-        Status::WriteFault => put_line(room, b"tsd: write fault"),
-        Status::Memory => put_line(room, b"tsd: out of memory"),
-        Status::AcceptFault => put_line(room, b"tsd: accept fault"),
-        Status::Budget => put_line(room, b"tsd: budget of bytes used up"),
-        Status::JournalFault => put_line(room, b"tsd: journal fault"),
-        Status::JournalBroken => put_place(room, b"tsd: journal broken at byte ", place),
-        Status::CaptureBroken => put_place(room, b"tsd: capture broken at byte ", place),
+        Status::Truncated => write_truncated_line(mode, line_buffer, byte_offset),
+        Status::Protocol => write_offset_line(
+            line_buffer,
+            b"tsd: protocol fault at byte ",
+            byte_offset,
+        ),
+        Status::ReadFault => write_text_line(line_buffer, b"tsd: read fault"),
+        Status::WriteFault => write_text_line(line_buffer, b"tsd: write fault"),
+        Status::Memory => write_text_line(line_buffer, b"tsd: out of memory"),
+        Status::AcceptFault => write_text_line(line_buffer, b"tsd: accept fault"),
+        Status::Budget => write_text_line(line_buffer, b"tsd: budget of bytes used up"),
+        Status::JournalFault => write_text_line(line_buffer, b"tsd: journal fault"),
+        Status::JournalBroken => write_offset_line(
+            line_buffer,
+            b"tsd: journal broken at byte ",
+            byte_offset,
+        ),
+        Status::CaptureBroken => write_offset_line(
+            line_buffer,
+            b"tsd: capture broken at byte ",
+            byte_offset,
+        ),
     };
-    &room[..end]
+    &line_buffer[..end]
 }
 
 // Writes the line of an input that ends inside a request or a frame, and returns its length.
-fn put_truncated(mode: Option<Mode>, room: &mut [u8; 160], place: u64) -> usize
-    ensures text { take result room.new ≡ line_in mode Status.Truncated place }
+fn write_truncated_line(mode: Option<Mode>, line_buffer: &mut [u8; 160], byte_offset: u64) -> usize
+    ensures text { take result line_buffer.new ≡ line_of_status_in mode Status.Truncated byte_offset }
     ensures within { result ≤ 160 }
 {
     match mode {
-        Some(Mode::Mux) => put_place(
-            room,
+        Some(Mode::Mux) => write_offset_line(
+            line_buffer,
             b"tsd: capture ends inside a frame that begins at byte ",
-            place,
+            byte_offset,
         ),
-        Some(Mode::Pipe | Mode::Serve(_) | Mode::Gen(_, _) | Mode::Keep) | None => put_place(
-            room,
-            b"tsd: input ends inside a request that begins at byte ",
-            place,
-        ),
+        Some(Mode::Pipe | Mode::Serve(_) | Mode::Gen(_, _) | Mode::Keep) | None =>
+            write_offset_line(
+                line_buffer,
+                b"tsd: input ends inside a request that begins at byte ",
+                byte_offset,
+            ),
     }
 }
 
 // Writes this text as a line, and returns its length.
-fn put_line(room: &mut [u8; 160], text: &[u8]) -> usize
+fn write_text_line(line_buffer: &mut [u8; 160], text: &[u8]) -> usize
     requires { length text.now < 160 }
-    ensures text { take result room.new ≡ ended text.now }
+    ensures text { take result line_buffer.new ≡ ended text.now }
     ensures within { result ≤ 160 }
 {
-    let at = put(room, 0, text);
-    put(room, at, b"\n")
+    let at = write_text_at(line_buffer, 0, text);
+    write_text_at(line_buffer, at, b"\n")
 }
 
 // Writes this text and a byte offset as a line, and returns its length.
-fn put_place(room: &mut [u8; 160], text: &[u8], place: u64) -> usize
+fn write_offset_line(line_buffer: &mut [u8; 160], text: &[u8], byte_offset: u64) -> usize
     requires { length text.now + 20 < 160 }
-    ensures text { take result room.new ≡ ended (text.now ++ decimal place) }
+    ensures text { take result line_buffer.new ≡ ended (text.now ++ decimal byte_offset) }
     ensures within { result ≤ 160 }
 {
-    let at = put(room, 0, text);
-    let at = put_number(room, at, place);
-    put(room, at, b"\n")
+    let at = write_text_at(line_buffer, 0, text);
+    let at = write_number_at(line_buffer, at, byte_offset);
+    write_text_at(line_buffer, at, b"\n")
 }
 
 /// How a served connection ended.
@@ -95,7 +113,7 @@ pub enum LinkEnd {
 impl LinkEnd {
     // Its word in the line.
     fn word(self) -> &'static str
-        ensures word { result.now ≡ word_of self }
+        ensures word { result.now ≡ link_end_word self }
         ensures short { length result.now ≤ 11 }
     {
         match self {
@@ -110,70 +128,70 @@ impl LinkEnd {
     }
 }
 
-/// Writes the line of a served connection into `room`: its number, counted from 1, how many of its requests were
+/// Writes the line of a served connection into `line_buffer`: its number, counted from 1, how many of its requests were
 /// executed, and how it ended.
-pub fn link_line(link: u32, executed: u64, end: LinkEnd, room: &mut [u8; 80]) -> &[u8]
+pub fn link_line(link: u32, executed: u64, end: LinkEnd, line_buffer: &mut [u8; 80]) -> &[u8]
     ensures { result.now ≡ link_line_of link executed end }
 {
-    let at = put(room, 0, b"link ");
-    let at = put_number(room, at, link.into());
-    let at = put(room, at, b" executed ");
-    let at = put_number(room, at, executed);
-    let at = put(room, at, b" ");
-    let at = put(room, at, end.word().as_bytes());
-    let at = put(room, at, b"\n");
-    &room[..at]
+    let at = write_text_at(line_buffer, 0, b"link ");
+    let at = write_number_at(line_buffer, at, link.into());
+    let at = write_text_at(line_buffer, at, b" executed ");
+    let at = write_number_at(line_buffer, at, executed);
+    let at = write_text_at(line_buffer, at, b" ");
+    let at = write_text_at(line_buffer, at, end.word().as_bytes());
+    let at = write_text_at(line_buffer, at, b"\n");
+    &line_buffer[..at]
 }
 
-/// Writes the summary of a workload into `room`: six lines, each a name and a number. The numbers are the requests
+/// Writes the summary of a workload into `line_buffer`: six lines, each a name and a number. The numbers are the requests
 /// executed, the bytes of the requests, the bytes of the replies, the error replies, the keys, and the samples of all
 /// keys.
-pub fn summary<'a>(numbers: &[u64; 6], room: &'a mut [u8; 192]) -> &'a [u8]
+pub fn summary<'a>(numbers: &[u64; 6], line_buffer: &'a mut [u8; 192]) -> &'a [u8]
     ensures { result.now ≡ summary_of numbers.now }
 {
-    let at = put_summary_line(room, 0, b"requests", numbers[0]);
-    let at = put_summary_line(room, at, b"in", numbers[1]);
-    let at = put_summary_line(room, at, b"out", numbers[2]);
-    let at = put_summary_line(room, at, b"errors", numbers[3]);
-    let at = put_summary_line(room, at, b"keys", numbers[4]);
-    let at = put_summary_line(room, at, b"samples", numbers[5]);
-    &room[..at]
+    let at = write_summary_line(line_buffer, 0, b"requests", numbers[0]);
+    let at = write_summary_line(line_buffer, at, b"in", numbers[1]);
+    let at = write_summary_line(line_buffer, at, b"out", numbers[2]);
+    let at = write_summary_line(line_buffer, at, b"errors", numbers[3]);
+    let at = write_summary_line(line_buffer, at, b"keys", numbers[4]);
+    let at = write_summary_line(line_buffer, at, b"samples", numbers[5]);
+    &line_buffer[..at]
 }
 
 // Writes a line of a name and a number at offset `at`, and returns the offset after it.
-fn put_summary_line(room: &mut [u8; 192], at: usize, word: &[u8], number: u64) -> usize
+fn write_summary_line(line_buffer: &mut [u8; 192], at: usize, word: &[u8], number: u64) -> usize
     requires { at + length word.now + 22 ≤ 192 }
-    ensures text { take result room.new ≡ take at room.old ++ summary_line word.now number }
+    ensures text { take result line_buffer.new ≡ take at line_buffer.old ++ summary_line word.now number }
     ensures after { result ≤ at + length word.now + 22 }
 {
-    let at = put(room, at, word);
-    let at = put(room, at, b" ");
-    let at = put_number(room, at, number);
-    put(room, at, b"\n")
+    let at = write_text_at(line_buffer, at, word);
+    let at = write_text_at(line_buffer, at, b" ");
+    let at = write_number_at(line_buffer, at, number);
+    write_text_at(line_buffer, at, b"\n")
 }
 
 // The most digits of a 64-bit number.
 pub(crate) const DIGITS: usize = 20;
 
 // Writes a text at offset `at`, and returns the offset after it.
-pub(crate) fn put(room: &mut [u8], at: usize, text: &[u8]) -> usize
-    requires { at + length text.now ≤ length room.old }
-    ensures text { take result room.new ≡ take at room.old ++ text.now }
+pub(crate) fn write_text_at(line_buffer: &mut [u8], at: usize, text: &[u8]) -> usize
+    requires { at + length text.now ≤ length line_buffer.old }
+    ensures text { take result line_buffer.new ≡ take at line_buffer.old ++ text.now }
     ensures after { result ≡ at + length text.now }
-    ensures size { length room.new ≡ length room.old }
+    ensures size { length line_buffer.new ≡ length line_buffer.old }
 {
     let after = at + text.len();
-    room[at..after].copy_from_slice(text);
+    line_buffer[at..after].copy_from_slice(text);
     after
 }
 
 // Writes a number in decimal at offset `at`, and returns the offset after it.
-pub(crate) fn put_number(room: &mut [u8], at: usize, number: u64) -> usize
-    requires { at + 20 ≤ length room.old }
-    ensures text { take result room.new ≡ take at room.old ++ decimal number }
+pub(crate) fn write_number_at(line_buffer: &mut [u8], at: usize, number: u64) -> usize
+    requires { at + 20 ≤ length line_buffer.old }
+    ensures text { take result line_buffer.new ≡ take at line_buffer.old ++ decimal number }
     ensures after { result ≤ at + 20 }
-    ensures size { length room.new ≡ length room.old }
+    ensures size { length line_buffer.new ≡ length line_buffer.old }
 {
     let mut buffer = Buffer::new();
-    put(room, at, buffer.format(number).as_bytes())
+    write_text_at(line_buffer, at, buffer.format(number).as_bytes())
 }

@@ -83,7 +83,7 @@ fn serve(address: &str, connections: &str) -> Option<Mode>
     if !is_operand(address.as_bytes()) {
         return None;
     }
-    let connections = number_of(connections.as_bytes(), 1, u32::MAX.into())?;
+    let connections = parse_bounded_number(connections.as_bytes(), 1, u32::MAX.into())?;
     Some(Mode::Serve(connections as u32))
 }
 
@@ -100,18 +100,18 @@ fn generate(seed: &str, n: &str) -> Option<Mode>
     ensures mode { result ≡ gen_of seed.now n.now }
     ensures within { IfSome result IsWithin }
 {
-    let seed = number_of(seed.as_bytes(), 0, u64::MAX)?;
-    let n = number_of(n.as_bytes(), 0, MOST_GENERATED)?;
+    let seed = parse_bounded_number(seed.as_bytes(), 0, u64::MAX)?;
+    let n = parse_bounded_number(n.as_bytes(), 0, MOST_GENERATED)?;
     Some(Mode::Gen(seed, n as u32))
 }
 
 // Parses a number from `least` to `most`.
-pub(crate) fn number_of(word: &[u8], least: u64, most: u64) -> Option<u64>
+pub(crate) fn parse_bounded_number(word: &[u8], least: u64, most: u64) -> Option<u64>
     ensures value { result ≡ number least most word.now }
     ensures least { IfSome result (λ n. least ≤ n) }
     ensures most { IfSome result (λ n. n ≤ most) }
 {
-    let total = digits_of(word)?;
+    let total = parse_digits(word)?;
     if total < u128::from(least) || total > u128::from(most) {
         return None;
     }
@@ -119,7 +119,7 @@ pub(crate) fn number_of(word: &[u8], least: u64, most: u64) -> Option<u64>
 }
 
 // Parses 1 to 20 decimal digits.
-fn digits_of(word: &[u8]) -> Option<u128>
+fn parse_digits(word: &[u8]) -> Option<u128>
     ensures { result ≡ (if is_digits word.now then Some (digits_number word.now) else None) }
 {
     if word.is_empty() || word.len() > 20 {

@@ -4,7 +4,7 @@
 
 ghost use Rattle.std.specs.Prelude.{◌≡◌, ◌≤◌, ◌^◌, ℕ, false, List, Some, IfOk};
 ghost use Rattle.ts_spec.specs.Limits.{usual};
-ghost use Rattle.ts_engine.specs.Headline.{Seen};
+ghost use Rattle.ts_engine.specs.Headline.{RunView};
 ghost use Rattle.ts_engine.specs.Top.{IsPipe, Headline};
 
 use std::alloc::Global;
@@ -60,7 +60,7 @@ fn answer<S: Source, K: Sink, E: Sink, C: Clock, N: Listener, J: Log>(
     net: &mut N,
     log: &mut J,
 ) -> Status
-    requires { N.is_out net.old ≡ false }
+    requires { N.has_open_link net.old ≡ false }
     ensures { IsPipe words.now → (bytes : List ℕ) → S.left input.old ≡ Some bytes → Headline
         (record { limits = usual; readings = C.readings clock.old; readings_left = C.readings clock.new; had = K.has out.old; has = K.has out.new })
         (2 ^ 60) bytes (S.left input.new) (E.has err.old) (E.has err.new) result }

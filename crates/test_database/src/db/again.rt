@@ -2,7 +2,7 @@
 // memory none fails: bench/refuse-each makes each allocation fail, one per run.
 ghost use Rattle.std.specs.Prelude.{◌≡◌, ◌≤◌, ◌<◌};
 
-use crate::db::call::{Call, Came, run, word};
+use crate::db::call::{ActualEffect, Call, run, word};
 use crate::db::same::are_same;
 use std::alloc::{AllocError, Global};
 use std::sync::ledger::{Blank, Ledger};
@@ -23,7 +23,7 @@ pub(crate) struct Script {
 #[derive(Clone, Copy)]
 pub(crate) enum Turn {
     // A call and its expected result.
-    Makes(Call, Came),
+    Makes(Call, ActualEffect),
     // The samples expected in a key: times and values in millionths.
     Shows(u8, &'static [(u64, i128)]),
 }
@@ -38,14 +38,14 @@ impl Script {
     // The call with this index: first the source is created, then each destination and each rule. Then come the calls.
     fn turn(&self, at: usize) -> Option<Turn> {
         let Some(at) = at.checked_sub(1) else {
-            return Some(Turn::Makes(Call::Create(self.source), Came::Done));
+            return Some(Turn::Makes(Call::Create(self.source), ActualEffect::Done));
         };
         if let Some(dest) = self.dests.get(at) {
-            return Some(Turn::Makes(Call::Create(*dest), Came::Done));
+            return Some(Turn::Makes(Call::Create(*dest), ActualEffect::Done));
         }
         let at = at.checked_sub(self.dests.len())?;
         if let Some(dest) = self.dests.get(at) {
-            return Some(Turn::Makes(Call::Sum(self.source, *dest), Came::Done));
+            return Some(Turn::Makes(Call::Sum(self.source, *dest), ActualEffect::Done));
         }
         let at = at.checked_sub(self.dests.len())?;
         self.turns.get(at).copied()
@@ -81,7 +81,7 @@ fn take<L: Ledger>(
 ) -> Result<Option<bool>, AllocError> {
     match turn {
         Turn::Makes(call, wanted) => match run(alloc, db, call, steps)? {
-            Came::NoMemory => Ok(None),
+            ActualEffect::NoMemory => Ok(None),
             came => Ok(Some(came == wanted)),
         },
         Turn::Shows(key, wanted) => {
@@ -95,7 +95,7 @@ fn take<L: Ledger>(
 }
 
 // A database after the first calls of a script, which must not fail.
-fn replayed<L: Ledger>(
+fn retried<L: Ledger>(
     alloc: Global,
     script: &Script,
     turns: usize,
@@ -124,7 +124,7 @@ fn goes_well<L: Ledger>(
     if let Some(well) = take(alloc, db, turn, steps)? {
         return Ok(well);
     }
-    let before = replayed(alloc, script, at, steps)?;
+    let before = retried(alloc, script, at, steps)?;
     if !are_same(alloc, db, &before, steps)? {
         return Ok(false);
     }

@@ -28,7 +28,7 @@ pub(crate) enum Call {
 
 // The result of a call.
 #[derive(Clone, Copy, PartialEq)]
-pub(crate) enum Came {
+pub(crate) enum ActualEffect {
     Done,
     Number(u64),
     // The id of the series at its sample limit, and whether it is the written one.
@@ -37,24 +37,24 @@ pub(crate) enum Came {
     OtherFault,
 }
 
-fn fault(fault: DbFault) -> Came {
+fn fault(fault: DbFault) -> ActualEffect {
     match fault {
-        DbFault::SamplesFull { id, written } => Came::Full(id.0, written),
-        DbFault::Memory(_) => Came::NoMemory,
-        _ => Came::OtherFault,
+        DbFault::SamplesFull { id, written } => ActualEffect::Full(id.0, written),
+        DbFault::Memory(_) => ActualEffect::NoMemory,
+        _ => ActualEffect::OtherFault,
     }
 }
 
-fn number(answer: Result<u64, DbFault>) -> Came {
+fn number(answer: Result<u64, DbFault>) -> ActualEffect {
     match answer {
-        Ok(number) => Came::Number(number),
+        Ok(number) => ActualEffect::Number(number),
         Err(why) => fault(why),
     }
 }
 
-fn done(answer: Result<(), DbFault>) -> Came {
+fn done(answer: Result<(), DbFault>) -> ActualEffect {
     match answer {
-        Ok(()) => Came::Done,
+        Ok(()) => ActualEffect::Done,
         Err(why) => fault(why),
     }
 }
@@ -83,7 +83,7 @@ pub(crate) fn run<L: Ledger>(
     db: &mut Db,
     call: Call,
     steps: &mut Steps<L>,
-) -> Result<Came, AllocError> {
+) -> Result<ActualEffect, AllocError> {
     let unit = Units::new(1).unwrap_or(Units::ZERO);
     match call {
         Call::Create(key) => Ok(done(db.create(word(alloc, key)?, spec(alloc)))),
@@ -110,7 +110,7 @@ pub(crate) fn run<L: Ledger>(
             Ok(done(db.delete_rule(&word(alloc, source)?, &word(alloc, dest)?)))
         }
         Call::Alter(key, value) => alter(alloc, db, key, value, steps),
-        _ => Ok(Came::OtherFault),
+        _ => Ok(ActualEffect::OtherFault),
     }
 }
 
@@ -120,10 +120,10 @@ fn alter<L: Ledger>(
     key: u8,
     value: u8,
     steps: &mut Steps<L>,
-) -> Result<Came, AllocError> {
+) -> Result<ActualEffect, AllocError> {
     let mut labels = Labels::new(alloc);
     if labels.set(word(alloc, b'l')?, word(alloc, value)?).is_err() {
-        return Ok(Came::NoMemory);
+        return Ok(ActualEffect::NoMemory);
     }
     let change = Change {
         retention: None,
@@ -141,10 +141,10 @@ fn make_rule(
     source: u8,
     dest: u8,
     agg: Aggregator,
-) -> Result<Came, AllocError> {
+) -> Result<ActualEffect, AllocError> {
     let (source, dest) = (word(alloc, source)?, word(alloc, dest)?);
     let Some(grid) = Grid::new(0, 10) else {
-        return Ok(Came::OtherFault);
+        return Ok(ActualEffect::OtherFault);
     };
     Ok(done(db.create_rule(&source, &dest, agg, grid)))
 }

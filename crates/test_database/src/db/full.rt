@@ -1,7 +1,7 @@
 // Series that reach their sample limit: which series the error names, by its id.
 ghost use Rattle.std.specs.Prelude.{◌≡◌, ◌<◌};
 
-use crate::db::call::{Call, Came, run};
+use crate::db::call::{ActualEffect, Call, run};
 use std::alloc::{AllocError, Global};
 use std::marker::Brand;
 use std::sync::ledger::{Blank, Ledger};
@@ -14,7 +14,7 @@ use ts_spec::Limits;
 fn wrong<L: Ledger>(
     alloc: Global,
     blank: Blank,
-    calls: &[(Call, Came)],
+    calls: &[(Call, ActualEffect)],
 ) -> Result<Option<usize>, AllocError>
     requires name { blank.name ≡ L.name }
     requires parts { blank.parts ≡ L.parts }
@@ -37,29 +37,29 @@ fn wrong<L: Ledger>(
 #[test]
 fn the_written_series_or_its_destination_is_full(rt: HostRuntime) -> Result<(), Fail> {
     let calls = [
-        (Call::Create(b'a'), Came::Done),
-        (Call::Create(b'c'), Came::Done),
-        (Call::Put(b'c', 1), Came::Number(1)),
-        (Call::Put(b'c', 2), Came::Number(2)),
-        (Call::Put(b'c', 3), Came::Number(3)),
-        (Call::Put(b'c', 4), Came::Full(1, true)),
-        (Call::Add(b'c', 4), Came::Full(1, true)),
-        (Call::Incr(b'c', 4), Came::Full(1, true)),
-        (Call::Make(b'a', b'c'), Came::Done),
-        (Call::Put(b'a', 11), Came::Number(11)),
-        (Call::Put(b'a', 21), Came::Full(1, false)),
-        (Call::Add(b'a', 21), Came::Full(1, false)),
-        (Call::Incr(b'a', 21), Came::Full(1, false)),
-        (Call::Put(b'a', 12), Came::Number(12)),
-        (Call::Put(b'a', 13), Came::Number(13)),
-        (Call::Put(b'a', 21), Came::Full(0, true)),
-        (Call::End(b'a', b'c'), Came::Done),
-        (Call::Delete(b'c', 1, 2), Came::Number(2)),
-        (Call::Make(b'c', b'a'), Came::Done),
-        (Call::Put(b'c', 4), Came::Number(4)),
-        (Call::Put(b'c', 14), Came::Full(0, false)),
-        (Call::Put(b'c', 5), Came::Number(5)),
-        (Call::Put(b'c', 14), Came::Full(1, true)),
+        (Call::Create(b'a'), ActualEffect::Done),
+        (Call::Create(b'c'), ActualEffect::Done),
+        (Call::Put(b'c', 1), ActualEffect::Number(1)),
+        (Call::Put(b'c', 2), ActualEffect::Number(2)),
+        (Call::Put(b'c', 3), ActualEffect::Number(3)),
+        (Call::Put(b'c', 4), ActualEffect::Full(1, true)),
+        (Call::Add(b'c', 4), ActualEffect::Full(1, true)),
+        (Call::Incr(b'c', 4), ActualEffect::Full(1, true)),
+        (Call::Make(b'a', b'c'), ActualEffect::Done),
+        (Call::Put(b'a', 11), ActualEffect::Number(11)),
+        (Call::Put(b'a', 21), ActualEffect::Full(1, false)),
+        (Call::Add(b'a', 21), ActualEffect::Full(1, false)),
+        (Call::Incr(b'a', 21), ActualEffect::Full(1, false)),
+        (Call::Put(b'a', 12), ActualEffect::Number(12)),
+        (Call::Put(b'a', 13), ActualEffect::Number(13)),
+        (Call::Put(b'a', 21), ActualEffect::Full(0, true)),
+        (Call::End(b'a', b'c'), ActualEffect::Done),
+        (Call::Delete(b'c', 1, 2), ActualEffect::Number(2)),
+        (Call::Make(b'c', b'a'), ActualEffect::Done),
+        (Call::Put(b'c', 4), ActualEffect::Number(4)),
+        (Call::Put(b'c', 14), ActualEffect::Full(0, false)),
+        (Call::Put(b'c', 5), ActualEffect::Number(5)),
+        (Call::Put(b'c', 14), ActualEffect::Full(1, true)),
     ];
     assert!(rt; wrong::<Brand>(rt.alloc(), Blank::new(1), &calls)? == None);
     Ok(())
@@ -68,17 +68,17 @@ fn the_written_series_or_its_destination_is_full(rt: HostRuntime) -> Result<(), 
 #[test]
 fn a_deletion_fills_a_destination(rt: HostRuntime) -> Result<(), Fail> {
     let calls = [
-        (Call::Create(b'a'), Came::Done),
-        (Call::Create(b'c'), Came::Done),
-        (Call::Make(b'a', b'c'), Came::Done),
-        (Call::Put(b'a', 1), Came::Number(1)),
-        (Call::Put(b'a', 2), Came::Number(2)),
-        (Call::Put(b'a', 11), Came::Number(11)),
-        (Call::Delete(b'c', 0, 0), Came::Number(1)),
-        (Call::Put(b'c', 100), Came::Number(100)),
-        (Call::Put(b'c', 200), Came::Number(200)),
-        (Call::Put(b'c', 300), Came::Number(300)),
-        (Call::Delete(b'a', 2, 2), Came::Full(1, false)),
+        (Call::Create(b'a'), ActualEffect::Done),
+        (Call::Create(b'c'), ActualEffect::Done),
+        (Call::Make(b'a', b'c'), ActualEffect::Done),
+        (Call::Put(b'a', 1), ActualEffect::Number(1)),
+        (Call::Put(b'a', 2), ActualEffect::Number(2)),
+        (Call::Put(b'a', 11), ActualEffect::Number(11)),
+        (Call::Delete(b'c', 0, 0), ActualEffect::Number(1)),
+        (Call::Put(b'c', 100), ActualEffect::Number(100)),
+        (Call::Put(b'c', 200), ActualEffect::Number(200)),
+        (Call::Put(b'c', 300), ActualEffect::Number(300)),
+        (Call::Delete(b'a', 2, 2), ActualEffect::Full(1, false)),
     ];
     assert!(rt; wrong::<Brand>(rt.alloc(), Blank::new(1), &calls)? == None);
     Ok(())

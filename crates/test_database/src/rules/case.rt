@@ -7,7 +7,7 @@ use std::sync::ledger::{Blank, Ledger};
 use ts_agg::{Aggregator, Running};
 use ts_bucket::Grid;
 use ts_rules::{Rule, RuleFault, RulePlan, latest, plan_delete, plan_put};
-use ts_sample::{Gathered, Id, MAX_TIME, Sample, Steps, Units};
+use ts_sample::{Id, MAX_TIME, Sample, SampleCollector, Steps, Units};
 use ts_series::{Encoding, Ignore, Merge, Options, Policy, Series, SeriesPlan};
 
 // A change of the source.
@@ -28,11 +28,11 @@ pub(crate) struct Case {
     pub(crate) dest: &'static [(u64, i128)],
     pub(crate) limit: u32,
     pub(crate) change: Change,
-    pub(crate) comes: Came,
+    pub(crate) expected_effect: ActualEffect,
 }
 
 #[derive(Clone, Copy)]
-pub(crate) enum Came {
+pub(crate) enum ActualEffect {
     Shown(&'static [(u64, i128)], Option<(u64, i128)>),
     Full,
 }
@@ -45,7 +45,7 @@ pub(crate) const EMPTY: Case = Case {
     dest: &[],
     limit: 4,
     change: Change::Write(1, 5),
-    comes: Came::Shown(&[], Some((0, 5))),
+    expected_effect: ActualEffect::Shown(&[], Some((0, 5))),
 };
 
 pub(crate) fn sample(time: u64, value: i128) -> Option<Sample> {
@@ -127,7 +127,7 @@ pub(crate) fn is_shown<L: Ledger>(
     wanted: &[(u64, i128)],
     steps: &mut Steps<L>,
 ) -> Option<bool> {
-    let mut gathered = Gathered::with_room(alloc, series.room_for(0, MAX_TIME)).ok()?;
+    let mut gathered = SampleCollector::with_reserved(alloc, series.room_for(0, MAX_TIME)).ok()?;
     series.scan(0, MAX_TIME, &mut gathered, steps);
     let samples = gathered.into_samples();
     for (sample, wanted) in samples.iter().zip(wanted) {
@@ -148,7 +148,11 @@ pub(crate) fn commit(dest: &mut Series, plan: Option<SeriesPlan>)
 }
 
 // Whether a change has the expected effect. `None` if the case can't be set up.
-pub(crate) fn is_met<L: Ledger>(alloc: Global, blank: Blank, case: &Case) -> Option<bool>
+pub(crate) fn has_expected_effect<L: Ledger>(
+    alloc: Global,
+    blank: Blank,
+    case: &Case,
+) -> Option<bool>
     requires name { blank.name ≡ L.name }
     requires parts { blank.parts ≡ L.parts }
     requires some { 0 < blank.parts }
@@ -178,13 +182,13 @@ pub(crate) fn is_met<L: Ledger>(alloc: Global, blank: Blank, case: &Case) -> Opt
             alloc, &rule, &source, from, to, &dest, case.limit, &mut steps,
         ),
     };
-    match (planned, case.comes) {
-        (Ok(RulePlan { rule, dest: plan }), Came::Shown(shown, open)) => {
+    match (planned, case.expected_effect) {
+        (Ok(RulePlan { rule, dest: plan }), ActualEffect::Shown(shown, open)) => {
             commit(&mut dest, plan);
             let is_open = is_latest(latest(&rule, dest.born()), open);
             Some(is_shown(alloc, &dest, shown, &mut steps)? && is_open && rule.dest == Id(7))
         }
-        (Err(RuleFault::Full), Came::Full) => Some(true),
+        (Err(RuleFault::Full), ActualEffect::Full) => Some(true),
         _ => Some(false),
     }
 }

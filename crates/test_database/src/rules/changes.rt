@@ -1,5 +1,5 @@
 // The effect of a write or a deletion in the source of a rule.
-use crate::rules::case::{Came, Case, Change, EMPTY, is_met};
+use crate::rules::case::{ActualEffect, Case, Change, EMPTY, has_expected_effect};
 use std::marker::Brand;
 use std::sync::ledger::Blank;
 use std::test::*;
@@ -20,7 +20,7 @@ fn writes(rt: HostRuntime) {
             current: Some(0),
             counted: &[5],
             change: Change::Write(2, 6),
-            comes: Came::Shown(&[], Some((0, 11))),
+            expected_effect: ActualEffect::Shown(&[], Some((0, 11))),
             ..EMPTY
         },
         Case {
@@ -28,28 +28,28 @@ fn writes(rt: HostRuntime) {
             current: Some(0),
             counted: &[5, 6],
             change: Change::Write(11, 1),
-            comes: Came::Shown(&[(0, 11)], Some((10, 1))),
+            expected_effect: ActualEffect::Shown(&[(0, 11)], Some((10, 1))),
             ..EMPTY
         },
         Case {
             change: Change::Write(3, 4),
-            comes: Came::Shown(&[(0, 15)], Some((10, 1))),
+            expected_effect: ActualEffect::Shown(&[(0, 15)], Some((10, 1))),
             ..closed
         },
         Case {
             change: Change::Write(2, 1),
-            comes: Came::Shown(&[(0, 6)], Some((10, 1))),
+            expected_effect: ActualEffect::Shown(&[(0, 6)], Some((10, 1))),
             ..closed
         },
         Case {
             dest: &[],
             change: Change::Write(2, 1),
-            comes: Came::Shown(&[(0, 6)], Some((10, 1))),
+            expected_effect: ActualEffect::Shown(&[(0, 6)], Some((10, 1))),
             ..closed
         },
         Case {
             change: Change::Write(10, 2),
-            comes: Came::Shown(&[(0, 11)], Some((10, 3))),
+            expected_effect: ActualEffect::Shown(&[(0, 11)], Some((10, 3))),
             ..closed
         },
         Case {
@@ -57,19 +57,19 @@ fn writes(rt: HostRuntime) {
             source: &[(2, 5), (10, 0)],
             dest: &[(0, 5)],
             change: Change::Write(3, 3),
-            comes: Came::Shown(&[(0, 8)], Some((10, 1))),
+            expected_effect: ActualEffect::Shown(&[(0, 8)], Some((10, 1))),
             ..closed
         },
         Case {
             dest: &[(100, 1)],
             limit: 1,
             change: Change::Write(21, 1),
-            comes: Came::Full,
+            expected_effect: ActualEffect::Full,
             ..closed
         },
     ];
     for case in cases {
-        assert!(rt; is_met::<Brand>(rt.alloc(), Blank::new(1), &case) == Some(true));
+        assert!(rt; has_expected_effect::<Brand>(rt.alloc(), Blank::new(1), &case) == Some(true));
     }
 }
 
@@ -85,41 +85,44 @@ fn deletions(rt: HostRuntime) {
     let cases = [
         Case {
             change: Change::Delete(5, 25),
-            comes: Came::Shown(&[(0, 1), (15, 9)], Some((30, 1))),
+            expected_effect: ActualEffect::Shown(&[(0, 1), (15, 9)], Some((30, 1))),
             ..case
         },
         Case {
             dest: &[(0, 99), (10, 1), (20, 1)],
             change: Change::Delete(5, 15),
-            comes: Came::Shown(&[(0, 99), (20, 1)], Some((30, 1))),
+            expected_effect: ActualEffect::Shown(&[(0, 99), (20, 1)], Some((30, 1))),
             ..case
         },
         Case {
             source: &[(1, 1), (2, 3), (12, 1), (25, 1), (27, 4), (31, 1)],
             change: Change::Delete(2, 25),
-            comes: Came::Shown(&[(0, 1), (15, 9), (20, 4)], Some((30, 1))),
+            expected_effect: ActualEffect::Shown(&[(0, 1), (15, 9), (20, 4)], Some((30, 1))),
             ..case
         },
         Case {
             change: Change::Delete(31, 31),
-            comes: Came::Shown(&[(0, 1), (10, 1), (15, 9), (20, 1)], None),
+            expected_effect: ActualEffect::Shown(&[(0, 1), (10, 1), (15, 9), (20, 1)], None),
             ..case
         },
         Case {
             change: Change::Delete(25, 1),
-            comes: Came::Shown(&[(0, 1), (10, 1), (15, 9), (20, 1)], Some((30, 1))),
+            expected_effect: ActualEffect::Shown(
+                &[(0, 1), (10, 1), (15, 9), (20, 1)],
+                Some((30, 1)),
+            ),
             ..case
         },
         Case {
             change: Change::Delete(0, u64::MAX),
-            comes: Came::Shown(&[(15, 9)], None),
+            expected_effect: ActualEffect::Shown(&[(15, 9)], None),
             ..case
         },
         Case {
             source: &[(1, 1), (35, 1)],
             dest: &[(0, 1), (10, 7), (20, 8)],
             change: Change::Delete(0, 29),
-            comes: Came::Shown(&[(10, 7), (20, 8)], Some((30, 1))),
+            expected_effect: ActualEffect::Shown(&[(10, 7), (20, 8)], Some((30, 1))),
             ..case
         },
         Case {
@@ -127,7 +130,7 @@ fn deletions(rt: HostRuntime) {
             current: Some(10),
             dest: &[(0, 1)],
             change: Change::Delete(1, 35),
-            comes: Came::Shown(&[], None),
+            expected_effect: ActualEffect::Shown(&[], None),
             ..case
         },
         Case {
@@ -135,11 +138,11 @@ fn deletions(rt: HostRuntime) {
             dest: &[(10, 1)],
             limit: 1,
             change: Change::Delete(1, 1),
-            comes: Came::Full,
+            expected_effect: ActualEffect::Full,
             ..case
         },
     ];
     for case in cases {
-        assert!(rt; is_met::<Brand>(rt.alloc(), Blank::new(1), &case) == Some(true));
+        assert!(rt; has_expected_effect::<Brand>(rt.alloc(), Blank::new(1), &case) == Some(true));
     }
 }

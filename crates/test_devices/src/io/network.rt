@@ -1,6 +1,6 @@
 // Connections over this machine's network.
 ghost use Rattle.std.specs.Prelude.{◌≡◌, false, IfOk};
-ghost use Rattle.ts_io.specs.Adapters.{hands_out};
+ghost use Rattle.ts_io.specs.Adapters.{link_is_open};
 
 use crate::io::calls::{read_two, write_once};
 use std::io;
@@ -39,7 +39,7 @@ fn a_connection_is_a_link(rt: HostRuntime) -> Result<(), Fail> {
 
 // A listener and a client connected to it.
 fn connected(rt: &HostRuntime) -> Result<(TcpNet<&HostRuntime>, TcpStream), Fail>
-    ensures { IfOk result (λ r. hands_out r.0 ≡ false) }
+    ensures { IfOk result (λ r. link_is_open r.0 ≡ false) }
 {
     let address = free_address(rt)?;
     let text = format!(in rt.alloc(); "{address}")?;

@@ -3,7 +3,7 @@ use crate::range::question::{ask, buckets, query, row, row_of_cell, sample, unit
 use std::test::*;
 use ts_agg::Aggregator;
 use ts_bucket::Stamp;
-use ts_range::{Asked, Filters, RangeFault, RowList, Walk, answer};
+use ts_range::{Asked, Filters, RangeFault, RowList, RowScan, answer};
 use ts_sample::MAX_TIME;
 
 #[test]
@@ -26,7 +26,7 @@ fn parts_of_intervals(rt: HostRuntime) -> Result<(), Fail> {
     let mut asked = query(None, None, false);
     asked.times = Some(vec![in alloc; 7, 3, 5]?);
     let filters = Filters::of(&asked)?;
-    let walk = Walk::new(&filters, None, RowList::with_room(alloc, 0)?);
+    let walk = RowScan::new(&filters, None, RowList::with_reserved(alloc, 0)?);
     for (from, to, part) in [
         (0u64, 9u64, Some((3u64, 7u64))),
         (3, 5, Some((3, 5))),
@@ -36,7 +36,7 @@ fn parts_of_intervals(rt: HostRuntime) -> Result<(), Fail> {
         (8, 9, None),
         (7, 3, None),
     ] {
-        assert!(rt; walk.wanted_part(from, to) == part);
+        assert!(rt; walk.part_to_scan(from, to) == part);
     }
     Ok(())
 }

@@ -4,13 +4,13 @@ ghost use Rattle.std.specs.Prelude.{IfSome, IfNone, ◌≤◌, ◌*◌};
 ghost use Rattle.ts_spec.specs.Sample.{IsAscending, at_times};
 ghost use Rattle.ts_chunk_packed.specs.Marks.{AreMarks, IsMark, IsPlace, EndsAt, passed};
 ghost use Rattle.ts_chunk_packed.specs.Packed.{begin, state_from, packed};
-ghost use Rattle.ts_chunk_packed.specs.Rest.{IsRestOf, IsRestFrom, IsRestPast};
+ghost use Rattle.ts_chunk_packed.specs.Decoder.{IsUndecodedOf, IsUndecodedFrom, IsUndecodedPast};
 
 use super::PackedChunk;
 use crate::context::Context;
+use crate::decoder::Decoder;
 use crate::late_marks::LateMarks;
-use crate::mark::{Mark, Offset};
-use crate::rest::Rest;
+use crate::mark::{Mark, MarkPosition};
 use std::alloc::{AllocError, Global};
 use ts_sample::{Chunk, Sample};
 
@@ -23,28 +23,28 @@ impl PackedChunk {
     }
 
     // The samples after the last mark before `time`.
-    pub(super) fn rest_from(&self, time: u64) -> Rest<'_>
-        ensures { IsRestFrom time self.now.list result }
+    pub(super) fn rest_from(&self, time: u64) -> Decoder<'_>
+        ensures { IsUndecodedFrom time self.now.list result }
     {
         self.rest_at(self.marks.before(time))
     }
 
     // The samples after `mark`, or all samples if there is no mark.
-    pub(super) fn rest_at(&self, mark: Option<&Mark>) -> Rest<'_>
+    pub(super) fn rest_at(&self, mark: Option<&Mark>) -> Decoder<'_>
         requires { IfSome mark (λ m. IsMark self.now.list m.now) }
-        ensures all { IfNone mark.entry (IsRestPast 0 self.now.list result) }
-        ensures past { IfSome mark.entry (λ m. IsRestPast m.now.count self.now.list result) }
+        ensures all { IfNone mark.entry (IsUndecodedPast 0 self.now.list result) }
+        ensures past { IfSome mark.entry (λ m. IsUndecodedPast m.now.count self.now.list result) }
     {
         let Some(mark) = mark else {
-            return Rest::new(Context::new(None, 0), &self.bytes, self.count);
+            return Decoder::new(Context::new(None, 0), &self.bytes, self.count);
         };
         let bytes = &self.bytes[mark.at() as usize..];
-        Rest::new(mark.context(), bytes, self.count - mark.count())
+        Decoder::new(mark.context(), bytes, self.count - mark.count())
     }
 
     // The reading position in front of the remaining samples.
-    pub(super) fn place_before(&self, rest: &Rest<'_>) -> Option<Mark>
-        requires { IsRestOf self.now.list rest.now }
+    pub(super) fn place_before(&self, rest: &Decoder<'_>) -> Option<Mark>
+        requires { IsUndecodedOf self.now.list rest.now }
         ensures place { IsPlace self.now.list result }
         ensures passed { passed result + length rest.now.list ≡ length self.now.list }
     {
@@ -56,13 +56,14 @@ impl PackedChunk {
         &self,
         alloc: Global,
         time: u64,
-        rest: &mut Rest<'_>,
+        rest: &mut Decoder<'_>,
     ) -> Result<PackedChunk, AllocError>
-        requires { IsRestFrom time self.now.list rest.old }
+        requires { IsUndecodedFrom time self.now.list rest.old }
         ensures list { IfOk result (λ c. c.list ≡ at_times (λ t. nat_lt t time) self.now.list) }
         ensures limit { IfOk result (λ c. c.limit ≡ self.now.limit) }
         ensures rest { IfOk result (λ _. rest.new.list ≡ at_times (nat_le time) self.now.list) }
-        ensures state { IfOk result (λ _. rest.new.state ≡ state_from begin (at_times (λ t. nat_lt t time) self.now.list)) }
+        ensures state { IfOk result (λ _. rest.new.state
+            ≡ state_from begin (at_times (λ t. nat_lt t time) self.now.list)) }
     {
         self.known();
         let mut marks = self.marks_before(alloc, rest)?;
@@ -74,11 +75,11 @@ impl PackedChunk {
     pub(super) fn all_before(
         &self,
         alloc: Global,
-        rest: &Rest<'_>,
+        rest: &Decoder<'_>,
         marks: LateMarks,
     ) -> Result<PackedChunk, AllocError>
-        requires rest { IsRestOf self.now.list rest.now }
-        requires marks { (of : IsRestOf self.now.list rest.now) → AreMarks of.front marks }
+        requires rest { IsUndecodedOf self.now.list rest.now }
+        requires marks { (of : IsUndecodedOf self.now.list rest.now) → AreMarks of.front marks }
         ensures whole { IfOk result (λ c. c.list ++ rest.now.list ≡ self.now.list) }
         ensures state { IfOk result (λ c. rest.now.state ≡ state_from begin c.list) }
         ensures limit { IfOk result (λ c. c.limit ≡ self.now.limit) }
@@ -100,20 +101,20 @@ impl PackedChunk {
     }
 
     // The marks in front of `rest`, with capacity for more.
-    fn marks_before(&self, alloc: Global, rest: &Rest<'_>) -> Result<LateMarks, AllocError>
-        requires { IsRestOf self.now.list rest.now }
-        ensures { IfOk result (λ ms. (of : IsRestOf self.now.list rest.now) → AreMarks of.front ms) }
+    fn marks_before(&self, alloc: Global, rest: &Decoder<'_>) -> Result<LateMarks, AllocError>
+        requires { IsUndecodedOf self.now.list rest.now }
+        ensures { IfOk result (λ ms. (of : IsUndecodedOf self.now.list rest.now) → AreMarks of.front ms) }
     {
-        let mut marks = LateMarks::with_room(alloc, self.limit)?;
+        let mut marks = LateMarks::with_reserved(alloc, self.limit)?;
         let place = self.place_of(rest);
         marks.keep_first(&self.marks, place.count);
         Ok(marks)
     }
 
     // Skips the samples before `time`, and sets each mark that becomes due.
-    fn pass_before(&self, time: u64, rest: &mut Rest<'_>, marks: &mut LateMarks)
-        requires rest { IsRestFrom time self.now.list rest.old }
-        requires marks { (from : IsRestFrom time self.now.list rest.old) → AreMarks from.rest.front marks.old }
+    fn pass_before(&self, time: u64, rest: &mut Decoder<'_>, marks: &mut LateMarks)
+        requires rest { IsUndecodedFrom time self.now.list rest.old }
+        requires marks { (from : IsUndecodedFrom time self.now.list rest.old) → AreMarks from.rest.front marks.old }
         ensures list { rest.new.list ≡ at_times (nat_le time) self.now.list }
         ensures state { rest.new.state ≡ state_from begin (at_times (λ t. nat_lt t time) self.now.list) }
         ensures marks { AreMarks (at_times (λ t. nat_lt t time) self.now.list) marks.new }
@@ -125,11 +126,11 @@ impl PackedChunk {
     }
 
     // The byte and sample offset where `rest` starts.
-    pub(super) fn place_of(&self, rest: &Rest<'_>) -> Offset
-        requires { IsRestOf self.now.list rest.now }
-        ensures { (of : IsRestOf self.now.list rest.now) → EndsAt of.front result.at result.count }
+    pub(super) fn place_of(&self, rest: &Decoder<'_>) -> MarkPosition
+        requires { IsUndecodedOf self.now.list rest.now }
+        ensures { (of : IsUndecodedOf self.now.list rest.now) → EndsAt of.front result.at result.count }
     {
-        Offset {
+        MarkPosition {
             at: (self.bytes.len() - rest.bytes().len()) as u32,
             count: self.count - rest.len(),
         }
@@ -137,11 +138,11 @@ impl PackedChunk {
 
     /// Appends the remaining samples of `other` without coding them again, if they fit. Returns whether they did.
     /// Allocates nothing.
-    pub(crate) fn try_append_rest(&mut self, rest: &Rest<'_>, other: &PackedChunk) -> bool
+    pub(crate) fn try_append_rest(&mut self, rest: &Decoder<'_>, other: &PackedChunk) -> bool
         requires some { 0 < length self.old.list }
         requires ascending { IsAscending (self.old.list ++ rest.now.list) }
         requires alike { 0 < length rest.now.list → state_from begin self.old.list ≡ rest.now.state }
-        requires of { IsRestOf other.now.list rest.now }
+        requires of { IsUndecodedOf other.now.list rest.now }
         ensures fits { result ≡ nat_le (length (packed (self.old.list ++ rest.now.list))) self.old.limit }
         ensures list { self.new.list ≡ (if result then self.old.list ++ rest.now.list else self.old.list) }
         ensures limit { self.new.limit ≡ self.old.limit }
@@ -156,7 +157,7 @@ impl PackedChunk {
             return false;
         }
         let from = other.place_of(rest);
-        let to = Offset {
+        let to = MarkPosition {
             at: self.bytes.len() as u32,
             count: self.count,
         };

@@ -3,12 +3,12 @@ ghost use Rattle.std.specs.Prelude.{◌≡◌, ◌<◌, ◌≤◌, length, IfOk,
 ghost use Rattle.ts_spec.specs.Sample.{put};
 ghost use Rattle.ts_chunk_packed.specs.Packed.{packed};
 ghost use Rattle.ts_chunk_packed.specs.Marks.{AreMarks};
-ghost use Rattle.ts_chunk_packed.specs.Rest.{IsRestOf};
+ghost use Rattle.ts_chunk_packed.specs.Decoder.{IsUndecodedOf};
 
 use super::PackedChunk;
+use crate::concatenation::append_remaining;
+use crate::decoder::Decoder;
 use crate::late_marks::LateMarks;
-use crate::rest::Rest;
-use crate::splicing::take_over;
 use std::alloc::{AllocError, Global};
 use ts_sample::{Chunk, MAX_TIME, Sample};
 
@@ -34,7 +34,7 @@ impl PackedChunk {
             return Ok(None);
         }
         rest.pass_before(sample.time + 1);
-        if !take_over(&mut chunk, &mut rest, self) {
+        if !append_remaining(&mut chunk, &mut rest, self) {
             return Ok(None);
         }
         Ok(Some((chunk, count - rest.len())))
@@ -48,11 +48,12 @@ impl PackedChunk {
         sample: &Sample,
     ) -> Result<Option<(PackedChunk, PackedChunk)>, AllocError>
         ensures list { IfOk result (λ o. IfSome o (λ r. r.0.list ++ r.1.list ≡ put sample.now self.now.list)) }
-        ensures limits { IfOk result (λ o. IfSome o (λ r. (r.0.limit ≡ self.now.limit) × (r.1.limit ≡ self.now.limit))) }
+        ensures limits { IfOk result
+            (λ o. IfSome o (λ r. (r.0.limit ≡ self.now.limit) × (r.1.limit ≡ self.now.limit))) }
     {
         self.known();
         let mut rest = self.rest_at(None);
-        let mut marks = LateMarks::with_room(alloc, self.limit)?;
+        let mut marks = LateMarks::with_reserved(alloc, self.limit)?;
         self.pass_half(sample, &mut rest, &mut marks);
         let Some((first, second)) = self.split(alloc, rest, marks)? else {
             return Ok(None);
@@ -74,11 +75,11 @@ impl PackedChunk {
 
     // Skips the first half of the samples, or a sample less if `sample` belongs to that half, and sets each mark that
     // becomes due. Where it stops affects only speed.
-    fn pass_half(&self, sample: &Sample, rest: &mut Rest<'_>, marks: &mut LateMarks)
-        requires rest { IsRestOf self.now.list rest.old }
-        requires marks { (of : IsRestOf self.now.list rest.old) → AreMarks of.front marks.old }
-        ensures rest { IsRestOf self.now.list rest.new }
-        ensures marks { (of : IsRestOf self.now.list rest.new) → AreMarks of.front marks.new }
+    fn pass_half(&self, sample: &Sample, rest: &mut Decoder<'_>, marks: &mut LateMarks)
+        requires rest { IsUndecodedOf self.now.list rest.old }
+        requires marks { (of : IsUndecodedOf self.now.list rest.old) → AreMarks of.front marks.old }
+        ensures rest { IsUndecodedOf self.now.list rest.new }
+        ensures marks { (of : IsUndecodedOf self.now.list rest.new) → AreMarks of.front marks.new }
     {
         for _ in 0..self.count.saturating_sub(1) / 2 {
             self.pass_next(MAX_TIME, rest, marks);
@@ -88,11 +89,11 @@ impl PackedChunk {
     }
 
     // Skips the next sample if it is before `time`, and sets a mark after it if one is due.
-    fn pass_next(&self, time: u64, rest: &mut Rest<'_>, marks: &mut LateMarks)
-        requires rest { IsRestOf self.now.list rest.old }
-        requires marks { (of : IsRestOf self.now.list rest.old) → AreMarks of.front marks.old }
-        ensures rest { IsRestOf self.now.list rest.new }
-        ensures marks { (of : IsRestOf self.now.list rest.new) → AreMarks of.front marks.new }
+    fn pass_next(&self, time: u64, rest: &mut Decoder<'_>, marks: &mut LateMarks)
+        requires rest { IsUndecodedOf self.now.list rest.old }
+        requires marks { (of : IsUndecodedOf self.now.list rest.old) → AreMarks of.front marks.old }
+        ensures rest { IsUndecodedOf self.now.list rest.new }
+        ensures marks { (of : IsUndecodedOf self.now.list rest.new) → AreMarks of.front marks.new }
     {
         if !rest.pass(time) {
             return;
@@ -107,13 +108,14 @@ impl PackedChunk {
     fn split(
         &self,
         alloc: Global,
-        mut rest: Rest<'_>,
+        mut rest: Decoder<'_>,
         marks: LateMarks,
     ) -> Result<Option<(PackedChunk, PackedChunk)>, AllocError>
-        requires rest { IsRestOf self.now.list rest }
-        requires marks { (of : IsRestOf self.now.list rest) → AreMarks of.front marks }
+        requires rest { IsUndecodedOf self.now.list rest }
+        requires marks { (of : IsUndecodedOf self.now.list rest) → AreMarks of.front marks }
         ensures whole { IfOk result (λ o. IfSome o (λ r. r.0.list ++ r.1.list ≡ self.now.list)) }
-        ensures limits { IfOk result (λ o. IfSome o (λ r. (r.0.limit ≡ self.now.limit) × (r.1.limit ≡ self.now.limit))) }
+        ensures limits { IfOk result
+            (λ o. IfSome o (λ r. (r.0.limit ≡ self.now.limit) × (r.1.limit ≡ self.now.limit))) }
     {
         self.known();
         let first = self.all_before(alloc, &rest, marks)?;
@@ -124,7 +126,7 @@ impl PackedChunk {
         if !second.try_append(&sample) {
             return Ok(None);
         }
-        if !take_over(&mut second, &mut rest, self) {
+        if !append_remaining(&mut second, &mut rest, self) {
             return Ok(None);
         }
         Ok(Some((first, second)))

@@ -1,21 +1,21 @@
 // Helpers of `PlainChunk`: its samples as 28-byte pieces, and the bytes before and after an index.
 ghost use Rattle.std.specs.Prelude.{◌≡◌, ◌≤◌, [], ◌∷◌, ◌++◌, map, take, drop, length};
 ghost use Rattle.ts_chunk_plain.specs.Plain.{plain, sample_of};
-ghost use Rattle.ts_sample.specs.Chunk.{AreFine};
+ghost use Rattle.ts_sample.specs.Chunk.{AreInBounds};
 ghost use Rattle.ts_spec.specs.Sample.{IsAscending, first_of, last_of};
 
 use super::PlainChunk;
-use crate::pieces::WIDTH;
+use crate::pieces::SAMPLE_BYTES;
 use ts_sample::{Chunk, Sample};
 
 impl PlainChunk {
     // Each sample's bytes.
-    pub(super) fn pieces(&self) -> &[[u8; WIDTH]]
+    pub(super) fn pieces(&self) -> &[[u8; SAMPLE_BYTES]]
         ensures list { map sample_of result.now ≡ self.now.list }
         ensures ascending { IsAscending (map sample_of result.now) }
-        ensures fine { AreFine (map sample_of result.now) }
+        ensures fine { AreInBounds (map sample_of result.now) }
     {
-        let (pieces, _) = self.bytes.as_slice().as_chunks::<WIDTH>();
+        let (pieces, _) = self.bytes.as_slice().as_chunks::<SAMPLE_BYTES>();
         pieces
     }
 
@@ -24,7 +24,7 @@ impl PlainChunk {
         requires { count ≤ length self.now.list }
         ensures { result.now ≡ plain (take count self.now.list) }
     {
-        self.bytes.split_at(count * WIDTH).0
+        self.bytes.split_at(count * SAMPLE_BYTES).0
     }
 
     // The bytes of the samples after the first `count`.
@@ -32,7 +32,7 @@ impl PlainChunk {
         requires { count ≤ length self.now.list }
         ensures { result.now ≡ plain (drop count self.now.list) }
     {
-        self.bytes.split_at(count * WIDTH).1
+        self.bytes.split_at(count * SAMPLE_BYTES).1
     }
 
     // The first sample once `sample` follows the first `count` samples.

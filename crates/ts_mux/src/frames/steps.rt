@@ -1,24 +1,25 @@
 // The steps of the frame parser: one header byte, or the body of a frame.
 ghost use Rattle.std.specs.Prelude.{◌≡◌, ◌+◌, ◌<◌, ◌≤◌, [], length, drop, slice_index, IfSome, MatchOption};
-ghost use Rattle.ts_mux.specs.Capture.{Link, Length, Body, Whole, MOST_BYTES, move, start};
-ghost use Rattle.ts_mux.specs.Framing.{IsLink, IsLinkSoFar, IsLengthSoFar, IsPart, IsBegun, IsOpen, mode_of, goto_of};
-ghost use Rattle.ts_mux.specs.Framing.{move_of};
-ghost use Rattle.ts_mux.specs.NextFrames.{GoesOn, Delivers};
+ghost use Rattle.ts_mux.specs.Capture.{Link, Length, Body, Whole, MOST_BYTES, transition, start};
+ghost use Rattle.ts_mux.specs.Framing.{IsLink, IsLinkSoFar, IsLengthSoFar, IsValidProgress, HasFirstByte, NeedsBytes};
+ghost use Rattle.ts_mux.specs.Framing.{mode_of, goto_progress};
+ghost use Rattle.ts_mux.specs.Framing.{transition_of};
+ghost use Rattle.ts_mux.specs.NextFrames.{ReadsHeaderByte, IsNextFrame};
 
 use super::{Frames, NextFrame};
 use crate::Frame;
-use crate::part::{Part, after_length, after_link};
+use crate::frame_progress::{FrameProgress, after_length, after_link};
 use ts_resp::Word;
 
 impl Frames {
     // Reads a header byte or a whole body. Returns `None` if `next` must continue.
     pub(super) fn step(&mut self) -> Option<NextFrame>
-        ensures { MatchOption result (GoesOn self.old self.new) (Delivers self.old self.new) }
+        ensures { MatchOption result (ReadsHeaderByte self.old self.new) (IsNextFrame self.old self.new) }
     {
-        match self.part {
-            Part::Link { number } => self.read_link(number),
-            Part::Length { link, number } => self.read_length(link, number),
-            Part::Body { link, len } => Some(self.take_frame(link, len)),
+        match self.frame_progress {
+            FrameProgress::Link { number } => self.read_link(number),
+            FrameProgress::Length { link, number } => self.read_length(link, number),
+            FrameProgress::Body { link, len } => Some(self.read_frame_bytes(link, len)),
         }
     }
 
@@ -26,11 +27,11 @@ impl Frames {
     fn read_link(&mut self, number: Option<u32>) -> Option<NextFrame>
         requires mode { self.old.mode ≡ Link number }
         requires range { IsLinkSoFar number }
-        ensures { MatchOption result (GoesOn self.old self.new) (Delivers self.old self.new) }
+        ensures { MatchOption result (ReadsHeaderByte self.old self.new) (IsNextFrame self.old self.new) }
     {
         match self.first() {
             None => Some(NextFrame::NotYet),
-            Some(byte) => self.take_byte(after_link(number, byte)),
+            Some(byte) => self.read_header_byte(after_link(number, byte)),
         }
     }
 
@@ -39,11 +40,11 @@ impl Frames {
         requires mode { self.old.mode ≡ Length link number }
         requires link { IsLink link }
         requires range { IsLengthSoFar number }
-        ensures { MatchOption result (GoesOn self.old self.new) (Delivers self.old self.new) }
+        ensures { MatchOption result (ReadsHeaderByte self.old self.new) (IsNextFrame self.old self.new) }
     {
         match self.first() {
             None => Some(NextFrame::NotYet),
-            Some(byte) => self.take_byte(after_length(link, number, byte)),
+            Some(byte) => self.read_header_byte(after_length(link, number, byte)),
         }
     }
 
@@ -56,30 +57,31 @@ impl Frames {
     }
 
     // Moves to the progress that the first unread byte leads to. `None` means that the byte is invalid.
-    fn take_byte(&mut self, part: Option<Part>) -> Option<NextFrame>
+    fn read_header_byte(&mut self, frame_progress: Option<FrameProgress>) -> Option<NextFrame>
         requires some { 0 < length self.old.unread }
-        requires part { move self.old.mode (slice_index self.old.unread 0) ≡ move_of part }
-        requires ranges { IfSome part IsPart }
-        requires begun { IfSome part IsBegun }
-        ensures { MatchOption result (GoesOn self.old self.new) (Delivers self.old self.new) }
+        requires frame_progress { transition self.old.mode (slice_index self.old.unread 0)
+            ≡ transition_of frame_progress }
+        requires ranges { IfSome frame_progress IsValidProgress }
+        requires begun { IfSome frame_progress HasFirstByte }
+        ensures { MatchOption result (ReadsHeaderByte self.old self.new) (IsNextFrame self.old self.new) }
     {
-        match part {
+        match frame_progress {
             None => Some(NextFrame::Broken(self.place)),
-            Some(Part::Body { link, len: 0 }) => Some(self.take_empty(link)),
-            Some(part) => {
-                self.go(part);
+            Some(FrameProgress::Body { link, len: 0 }) => Some(self.read_empty_frame(link)),
+            Some(frame_progress) => {
+                self.go(frame_progress);
                 None
             }
         }
     }
 
     // Reads the last header byte of an empty frame.
-    fn take_empty(&mut self, link: u32) -> NextFrame
+    fn read_empty_frame(&mut self, link: u32) -> NextFrame
         requires some { 0 < length self.old.unread }
-        requires whole { move self.old.mode (slice_index self.old.unread 0)
+        requires whole { transition self.old.mode (slice_index self.old.unread 0)
             ≡ Whole (record { link = link; bytes = [] }) }
         requires link { IsLink link }
-        ensures { Delivers self.old self.new result }
+        ensures { IsNextFrame self.old self.new result }
     {
         let Ok(bytes) = Word::from_slice(self.alloc, &[]) else {
             return NextFrame::Memory;
@@ -89,12 +91,12 @@ impl Frames {
     }
 
     // Reads the body of a frame, if all of it has arrived.
-    fn take_frame(&mut self, link: u32, len: u32) -> NextFrame
+    fn read_frame_bytes(&mut self, link: u32, len: u32) -> NextFrame
         requires body { self.old.mode ≡ Body link len [] }
         requires some { 0 < len }
         requires most { len ≤ MOST_BYTES }
         requires link { IsLink link }
-        ensures { Delivers self.old self.new result }
+        ensures { IsNextFrame self.old self.new result }
     {
         let len = len as usize;
         if self.unread.len() < len {
@@ -108,25 +110,26 @@ impl Frames {
     }
 
     // Consumes the first unread byte.
-    fn go(&mut self, part: Part)
+    fn go(&mut self, frame_progress: FrameProgress)
         requires some { 0 < length self.old.unread }
-        requires part { move self.old.mode (slice_index self.old.unread 0) ≡ goto_of part }
-        requires ranges { IsPart part }
-        requires begun { IsBegun part }
-        requires open { IsOpen part }
-        ensures { GoesOn self.old self.new }
+        requires frame_progress { transition self.old.mode (slice_index self.old.unread 0)
+            ≡ goto_progress frame_progress }
+        requires ranges { IsValidProgress frame_progress }
+        requires begun { HasFirstByte frame_progress }
+        requires open { NeedsBytes frame_progress }
+        ensures { ReadsHeaderByte self.old self.new }
     {
-        self.pass_byte(part);
+        self.pass_byte(frame_progress);
     }
 
-    fn pass_byte(&mut self, part: Part)
+    fn pass_byte(&mut self, frame_progress: FrameProgress)
         requires some { 0 < length self.old.unread }
-        requires ranges { IsPart part }
-        requires open { IsOpen part }
+        requires ranges { IsValidProgress frame_progress }
+        requires open { NeedsBytes frame_progress }
         ensures { self.new ≡ record self.old
-            { place = self.old.place + 1; mode = mode_of part; unread = drop 1 self.old.unread } }
+            { place = self.old.place + 1; mode = mode_of frame_progress; unread = drop 1 self.old.unread } }
     {
-        self.part = part;
+        self.frame_progress = frame_progress;
         self.unread.advance(1);
         self.place += 1;
     }
@@ -141,7 +144,7 @@ impl Frames {
           unread = drop len self.old.unread;
         } }
     {
-        self.part = Part::Link { number: None };
+        self.frame_progress = FrameProgress::Link { number: None };
         self.unread.advance(len);
         self.place += len as u64;
         self.begin = self.place;

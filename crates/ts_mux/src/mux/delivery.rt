@@ -3,11 +3,11 @@ ghost use Rattle.std.specs.Prelude.{◌≡◌, ◌+◌, ◌^◌, ◌<◌, ◌≤
 ghost use Rattle.std.specs.Prelude.{OnOk, OnErr};
 ghost use Rattle.ts_resp.specs.Reading.{fed};
 ghost use Rattle.ts_mux.specs.declared.frame.Frame.{Frame};
-ghost use Rattle.ts_mux.specs.Links.{ahead_of};
-ghost use Rattle.ts_mux.specs.Muxing.{ahead, delivered_to};
+ghost use Rattle.ts_mux.specs.Links.{pending_items_of};
+ghost use Rattle.ts_mux.specs.Muxing.{pending_items, delivered_to};
 
 use super::{LINKS, Mux};
-use crate::hand::Hand;
+use crate::current_connection::CurrentConnection;
 use std::alloc::AllocError;
 use std::mem;
 use ts_resp::Reader;
@@ -22,57 +22,62 @@ impl Mux {
 
     // Feeds bytes to an open connection and makes it the current one.
     pub(super) fn feed(&mut self, link: u32, bytes: &[u8]) -> Result<(), AllocError>
-        requires asked { ahead self.old [] ≡ [] }
+        requires asked { pending_items self.old [] ≡ [] }
         requires some { 0 < length bytes.now }
         requires open { get_or self.old.closed link true ≡ false }
         requires bound { delivered_to self.old + length bytes.now < 2 ^ 64 }
         ensures ok { OnOk result ((frames : List Frame)
-            → ahead self.new frames ≡ ahead self.old (record { link = link; bytes = bytes.now } ∷ frames)) }
+            → pending_items self.new frames
+            ≡ pending_items self.old (record { link = link; bytes = bytes.now } ∷ frames)) }
         ensures delivered { OnOk result (delivered_to self.new ≡ delivered_to self.old + length bytes.now) }
-        ensures err { OnErr result ((frames : List Frame) → ahead self.new frames ≡ ahead self.old frames) }
+        ensures err { OnErr result ((frames : List Frame)
+            → pending_items self.new frames ≡ pending_items self.old frames) }
         ensures err_delivered { OnErr result (delivered_to self.new ≡ delivered_to self.old) }
     {
-        self.put_back()?;
-        let mut reader = self.take_out(link);
+        self.store_current()?;
+        let mut reader = self.load_reader(link);
         let fed = reader.feed(bytes);
-        self.hand = Some(Hand { link, reader });
+        self.current_connection = Some(CurrentConnection { link, reader });
         fed?;
         self.delivered += bytes.len() as u64;
         Ok(())
     }
 
     // Stores the current connection's reader. On an error it stays current.
-    fn put_back(&mut self) -> Result<(), AllocError>
-        requires asked { ahead self.old [] ≡ [] }
-        ensures same { (frames : List Frame) → ahead self.new frames ≡ ahead self.old frames }
-        ensures hand { OnOk result (self.new.hand ≡ None) }
+    fn store_current(&mut self) -> Result<(), AllocError>
+        requires asked { pending_items self.old [] ≡ [] }
+        ensures same { (frames : List Frame) → pending_items self.new frames ≡ pending_items self.old frames }
+        ensures current_connection { OnOk result (self.new.current_connection ≡ None) }
         ensures closed { self.new.closed ≡ self.old.closed }
         ensures delivered { delivered_to self.new ≡ delivered_to self.old }
     {
-        let Some(hand) = self.hand.take() else {
+        let Some(current_connection) = self.current_connection.take() else {
             return Ok(());
         };
-        if let Some(kept) = self.readers.get_mut(&hand.link) {
-            *kept = hand.reader;
+        if let Some(kept) = self.readers.get_mut(&current_connection.link) {
+            *kept = current_connection.reader;
             return Ok(());
         }
-        match self.readers.insert(hand.link, hand.reader) {
+        match self
+            .readers
+            .insert(current_connection.link, current_connection.reader)
+        {
             Ok(_) => Ok(()),
             Err(failed) => {
                 let (link, reader) = failed.value;
-                self.hand = Some(Hand { link, reader });
+                self.current_connection = Some(CurrentConnection { link, reader });
                 Err(AllocError)
             }
         }
     }
 
     // Returns the connection's reader and leaves a fresh one in the map; a new connection gets a fresh one.
-    fn take_out(&mut self, link: u32) -> Reader
-        requires hand { self.old.hand ≡ None }
-        ensures same { (frames : List Frame) → ahead_of self.new.limits self.new.closed self.new.readers
-            (Some (record { link = link; reader = result })) frames ≡ ahead self.old frames }
+    fn load_reader(&mut self, link: u32) -> Reader
+        requires current_connection { self.old.current_connection ≡ None }
+        ensures same { (frames : List Frame) → pending_items_of self.new.limits self.new.closed self.new.readers
+            (Some (record { link = link; reader = result })) frames ≡ pending_items self.old frames }
         ensures fed { fed result ≤ delivered_to self.new }
-        ensures hand { self.new.hand ≡ None }
+        ensures current_connection { self.new.current_connection ≡ None }
         ensures closed { self.new.closed ≡ self.old.closed }
         ensures delivered { delivered_to self.new ≡ delivered_to self.old }
     {

@@ -21,7 +21,7 @@ impl Reader {
                 self.scanned = self.unread.len();
                 Some(Next::NotYet)
             }
-            Text::Whole { feed } => self.take_line(feed),
+            Text::Whole { feed } => self.consume_line(feed),
             Text::TooLong => {
                 let at = self.limits.line_bytes as usize;
                 Some(Next::Broken(self.fault(Kind::TooLarge, at)))
@@ -30,7 +30,7 @@ impl Reader {
     }
 
     // Consumes the line whose LF is at index `feed`. Out of memory leaves the line unread.
-    fn take_line(&mut self, feed: usize) -> Option<Next>
+    fn consume_line(&mut self, feed: usize) -> Option<Next>
         requires between { self.old.so_far ≡ None }
         requires text { IsText self.old.limits self.old.unread (Text.Whole feed) }
         requires begun { IsTextBegun self.old.limits self.old.unread (Text.Whole feed) }

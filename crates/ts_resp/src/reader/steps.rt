@@ -14,7 +14,7 @@ use std::mem;
 use ts_spec::Kind;
 
 // Capacity reserved for arguments at first. A header may announce more arguments than ever arrive.
-const FIRST_WORDS: u32 = 16;
+const INITIAL_WORDS: u32 = 16;
 
 impl Reader {
     // Reads one request. Returns `None` if it had no arguments.
@@ -63,7 +63,7 @@ impl Reader {
             return None;
         }
         self.spare.clear();
-        let first_room = number.min(FIRST_WORDS) as usize;
+        let first_room = number.min(INITIAL_WORDS) as usize;
         if self.spare.reserve(first_room).is_err() {
             return Some(Next::Memory);
         }
@@ -164,10 +164,10 @@ fn room_after(room: u32, len: usize) -> u32
 }
 
 // The largest capacity for arguments that is kept between requests.
-const MOST_SPARE: usize = 1024;
+const MAX_IDLE_CAPACITY: usize = 1024;
 
 // The largest capacity in bytes that an empty input buffer keeps.
-const MOST_ROOM: usize = 65_536;
+const MAX_IDLE_WORDS: usize = 65_536;
 
 // Empties the vector for reuse. Returns `None` if its capacity is too large to keep.
 pub(super) fn emptied(words: Vec<Word>) -> Option<Vec<Word>>
@@ -176,7 +176,7 @@ pub(super) fn emptied(words: Vec<Word>) -> Option<Vec<Word>>
 {
     let mut words = words;
     words.clear();
-    if words.capacity() <= MOST_SPARE {
+    if words.capacity() <= MAX_IDLE_CAPACITY {
         Some(words)
     } else {
         None
@@ -184,13 +184,13 @@ pub(super) fn emptied(words: Vec<Word>) -> Option<Vec<Word>>
 }
 
 // Frees the capacity of an empty input buffer if it is too large to keep.
-pub(super) fn give_back_room(bytes: &mut BytesMut)
+pub(super) fn shrink_spare(bytes: &mut BytesMut)
     requires { bytes.old.items ≡ [] }
     ensures items { bytes.new.items ≡ [] }
     ensures room { bytes.new.spare ≤ 65536 }
 {
     bytes.clear();
-    if bytes.capacity() > MOST_ROOM {
+    if bytes.capacity() > MAX_IDLE_WORDS {
         *bytes = BytesMut::new(*bytes.allocator());
     }
 }

@@ -8,8 +8,8 @@ put-requires c =
     let n = c.numbers_of-numbers in
     record { room = omega (arith, their_lengths c.args.context.now c.args.sample.now n.result.time n.result.value n.result.made n.ensures.time n.ensures.value n.ensures.made) }
 
-pub put_wide-requires : goal.put_wide-requires
-put_wide-requires c =
+pub write_wide-requires : goal.write_wide-requires
+write_wide-requires c =
     let n = c.numbers_of-numbers in
     record { room = omega (arith, their_lengths c.args.context.now c.args.sample.now n.result.time n.result.value n.result.made n.ensures.time n.ensures.value n.ensures.made) }
 
@@ -22,5 +22,5 @@ pub returns-clause-items : goal.returns-clause-items
 returns-clause-items c =
     let n = c.numbers_of-numbers in
     c.put-2.ensures.items
-    ∙ ap (λ (l : List ℕ). l ++ number n.result.made) (c.put_wide.ensures.items ∙ ap (λ (l : List ℕ). l ++ number n.result.value) c.put.ensures.items)
+    ∙ ap (λ (l : List ℕ). l ++ number n.result.made) (c.write_wide.ensures.items ∙ ap (λ (l : List ℕ). l ++ number n.result.value) c.put.ensures.items)
     ∙ written_on c.args.context.now c.args.sample.now n.result.time n.result.value n.result.made n.ensures.time n.ensures.value n.ensures.made c.args.bytes.now.items

@@ -30,11 +30,11 @@ pub returns-then-byte-lt128-clause-value : goal.returns-then-byte-lt128-clause-v
 returns-then-byte-lt128-clause-value c =
     let l = c.loop-weight in
     let whole = number_done (2 ^ 120) c.args.bytes.now l.at l.number l.weight l.invariant.inside l.invariant.reading (omega arith) in
-    omega (arith, ints, c.ahead_near.ensures, ap (λ (n : ℕ). c.args.from +ℤ unzigzag n) whole)
+    omega (arith, ints, c.add_narrow.ensures, ap (λ (n : ℕ). c.args.from +ℤ unzigzag n) whole)
 
 pub returns-clause-value : goal.returns-clause-value
 returns-clause-value c =
     let l = c.loop-weight in
     let higher = c.read-higher.ensures.number ∙ ap (λ (x : List ℕ). (number_of x).0) (all_left c.args.bytes.now l.at) in
     let whole : l.number + c.read-higher.result.0 * l.weight ≡ (number_of c.args.bytes.now).0 = omega (arith, ap (λ (n : ℕ). l.weight * n) higher, l.invariant.reading.worth) in
-    omega (arith, ints, c.ahead_wide.ensures, ap (λ (n : ℕ). c.args.from +ℤ unzigzag n) whole)
+    omega (arith, ints, c.add_wide.ensures, ap (λ (n : ℕ). c.args.from +ℤ unzigzag n) whole)

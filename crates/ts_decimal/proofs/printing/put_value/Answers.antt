@@ -15,8 +15,8 @@ write_digits-place-requires c =
     let small : c.split_magnitude-whole.result.0 < 10 ^ 19 = omega arith in
     (omega (arith, length-decimal-le 19 c.split_magnitude-whole.result.0 (omega arith) small (omega arith)), omega arith)
 
-pub put_sign-start-requires-clause-from : goal.put_sign-start-requires-clause-from
-put_sign-start-requires-clause-from c =
+pub write_sign-start-requires-clause-from : goal.write_sign-start-requires-clause-from
+write_sign-start-requires-clause-from c =
     let small : c.split_magnitude-whole.result.0 < 10 ^ 19 = omega arith in
     omega (arith, length-decimal-le 19 c.split_magnitude-whole.result.0 (omega arith) small (omega arith))
 
@@ -31,9 +31,9 @@ returns-clause-text c =
     let same : to_z w128 (of_z w128 c.get-number.result) ≡ c.args.value = to_z-of_z w128 c.get-number.result fits ∙ c.get-number.ensures.value in
     let sign : List ℕ = sign_text (int_lt (to_z w128 (of_z w128 c.get-number.result)) (pos 0)) in
     let text : ℤ → ℕ → List ℕ = λ z n. sign_text (int_lt z (pos 0)) ++ (shown_whole (n / 1000000) ++ shown_fraction (n % 1000000)) in
-    printed c.args.room.now c.put_fraction-end.new.room c.write_digits-place.new.buf c.put_sign-start.new.room _ _ _ c.put_sign-start.result c.write_digits-place.result c.args.point c.put_fraction-end.result
-    (omega arith) c.put_fraction-end.ensures.from c.put_sign-start.ensures.start c.write_digits-place.ensures.start
-    c.put_fraction-end.ensures.text c.write_digits-place.ensures.written c.put_sign-start.ensures.text
+    printed c.args.room.now c.write_fraction-end.new.room c.write_digits-place.new.buf c.write_sign-start.new.room _ _ _ c.write_sign-start.result c.write_digits-place.result c.args.point c.write_fraction-end.result
+    (omega arith) c.write_fraction-end.ensures.from c.write_sign-start.ensures.start c.write_digits-place.ensures.start
+    c.write_fraction-end.ensures.text c.write_digits-place.ensures.written c.write_sign-start.ensures.text
     ∙ ap (λ (t : List ℕ). sign ++ (t ++ shown_fraction c.split_magnitude-whole.result.1))
     (shown_whole-decimal c.split_magnitude-whole.result.0 (omega arith) ∙ ap shown_whole c.split_magnitude-whole.ensures.whole)
     ∙ ap (λ (n : ℕ). sign ++ (shown_whole (c.unsigned_abs.result / 1000000) ++ shown_fraction n)) c.split_magnitude-whole.ensures.part

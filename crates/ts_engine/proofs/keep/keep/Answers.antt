@@ -1,7 +1,7 @@
 use Rattle.std.proofs.Common.{ℕ, refl, subst}
 use Rattle.ts_io.specs.Causes.{Rose}
 use Rattle.ts_spec.specs.State.{empty}
-use Rattle.ts_engine.proofs.KeptRuns.{kept-did, kept-complete, did-not, complete-not, causes-not, causes-on}
+use Rattle.ts_engine.proofs.JournaledRuns.{kept-did, kept-complete, did-not, complete-not, causes-not, causes-on}
 use Rattle.ts_engine.proofs.keep.keep.Goals as goal
 
 pub returns-in-Ok-clause-did : goal.returns-in-Ok-clause-did

@@ -1,6 +1,6 @@
 use Rattle.std.proofs.Common.{sym, subst, arith}
 use Rattle.std.specs.Prelude.{List, Option}
-use Rattle.ts_io.specs.Links.{TakesFront, AddsAtEnd}
+use Rattle.ts_io.specs.Links.{PopsFront, PushesBack}
 use Rattle.ts_io.specs.declared.listener.Ends.{Ends}
 use Rattle.ts_execution.proofs.Carried.{carries_none, carries_as}
 use Rattle.ts_engine.proofs.Answered.{is_served}
@@ -16,8 +16,8 @@ returns-in-Ok-write_link-clause-serves g c =
     carries_as _ _ _ _ (λ from to piped.
     serves_one _ _ _ c.args.number (record { came = c.in-Ok.ends; back = record { input = c.pipe-outcome.new.input; out = c.pipe-outcome.new.out }; outcome = c.pipe-outcome.result }) _ _
     (g.N.Listener.coming c.args.net.now) (g.N.Listener.coming c.close.new.self) (g.N.Listener.closed c.args.net.now) (g.N.Listener.closed c.close.new.self) _ _
-    (subst (λ (o : Option (List (Ends g.row.N-In.Denot g.row.N-Out.Denot))). TakesFront (g.N.Listener.coming c.args.net.now) o c.in-Ok.ends) (sym c.close.ensures.coming) c.in-Ok.ensures.link)
-    (subst (λ (o : Option (List (Ends g.row.N-In.Denot g.row.N-Out.Denot))). AddsAtEnd o (g.N.Listener.closed c.close.new.self) (record { input = c.pipe-outcome.new.input; out = c.pipe-outcome.new.out })) c.in-Ok.ensures.closed c.close.ensures.closed)
+    (subst (λ (o : Option (List (Ends g.row.N-In.Denot g.row.N-Out.Denot))). PopsFront (g.N.Listener.coming c.args.net.now) o c.in-Ok.ends) (sym c.close.ensures.coming) c.in-Ok.ensures.link)
+    (subst (λ (o : Option (List (Ends g.row.N-In.Denot g.row.N-Out.Denot))). PushesBack o (g.N.Listener.closed c.close.new.self) (record { input = c.pipe-outcome.new.input; out = c.pipe-outcome.new.out })) c.in-Ok.ensures.closed c.close.ensures.closed)
     (is_served _ _ _ _ _ _ piped c.pipe-outcome.ensures.causes) c.in-Ok-write_link.ensures.whole) c.pipe-outcome.ensures.piped
 
 pub returns-in-Err-clause-serves : goal.returns-in-Err-clause-serves
@@ -25,6 +25,6 @@ returns-in-Err-clause-serves g c =
     carries_as _ _ _ _ (λ from to piped.
     serves_cut _ _ _ c.args.number (record { came = c.in-Ok.ends; back = record { input = c.pipe-outcome.new.input; out = c.pipe-outcome.new.out }; outcome = c.pipe-outcome.result }) _ _
     (g.N.Listener.coming c.args.net.now) (g.N.Listener.coming c.close.new.self) (g.N.Listener.closed c.args.net.now) (g.N.Listener.closed c.close.new.self) _ _
-    (subst (λ (o : Option (List (Ends g.row.N-In.Denot g.row.N-Out.Denot))). TakesFront (g.N.Listener.coming c.args.net.now) o c.in-Ok.ends) (sym c.close.ensures.coming) c.in-Ok.ensures.link)
-    (subst (λ (o : Option (List (Ends g.row.N-In.Denot g.row.N-Out.Denot))). AddsAtEnd o (g.N.Listener.closed c.close.new.self) (record { input = c.pipe-outcome.new.input; out = c.pipe-outcome.new.out })) c.in-Ok.ensures.closed c.close.ensures.closed)
+    (subst (λ (o : Option (List (Ends g.row.N-In.Denot g.row.N-Out.Denot))). PopsFront (g.N.Listener.coming c.args.net.now) o c.in-Ok.ends) (sym c.close.ensures.coming) c.in-Ok.ensures.link)
+    (subst (λ (o : Option (List (Ends g.row.N-In.Denot g.row.N-Out.Denot))). PushesBack o (g.N.Listener.closed c.close.new.self) (record { input = c.pipe-outcome.new.input; out = c.pipe-outcome.new.out })) c.in-Ok.ensures.closed c.close.ensures.closed)
     (is_served _ _ _ _ _ _ piped c.pipe-outcome.ensures.causes) c.in-Err.ensures.front) c.pipe-outcome.ensures.piped

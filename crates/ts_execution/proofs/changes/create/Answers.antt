@@ -2,14 +2,14 @@ use Rattle.std.proofs.Common.{sym, subst}
 use Rattle.ts_labels.specs.Spec.{spec_of}
 use Rattle.ts_spec.specs.Response.{Done}
 use Rattle.ts_spec.specs.Step.{create}
-use Rattle.ts_db.specs.Held.{Held}
+use Rattle.ts_db.specs.DbState.{DbState}
 use Rattle.ts_questions.specs.Answering.{IsShort}
 use Rattle.ts_execution.proofs.Carried.{answered}
 use Rattle.ts_execution.proofs.ShortAnswers.{short_done}
 use Rattle.ts_execution.proofs.changes.create.Goals as goal
 
 pub returns-clause-answer : goal.returns-clause-answer
-returns-clause-answer c = answered (λ x. Done) c.args.db.now c.create.new.self (λ (h : Held). create h.limits h.state c.args.key (spec_of c.args.spec)) c.create.result _ c.done_reply.ensures c.create.ensures.created
+returns-clause-answer c = answered (λ x. Done) c.args.db.now c.create.new.self (λ (h : DbState). create h.limits h.state c.args.key (spec_of c.args.spec)) c.create.result _ c.done_reply.ensures c.create.ensures.created
 
 pub returns-clause-short : goal.returns-clause-short
 returns-clause-short c = subst IsShort (sym (c.done_reply.ensures c.args.db.now.ids)) (short_done c.args.db.now.ids c.create.result)

@@ -2,14 +2,14 @@ use Rattle.std.proofs.Common.{sym, subst}
 use Rattle.ts_labels.specs.Spec.{spec_of}
 use Rattle.ts_spec.specs.Response.{Count}
 use Rattle.ts_spec.specs.Step.{incr}
-use Rattle.ts_db.specs.Held.{Held}
+use Rattle.ts_db.specs.DbState.{DbState}
 use Rattle.ts_questions.specs.Answering.{IsShort}
 use Rattle.ts_execution.proofs.Carried.{answered}
 use Rattle.ts_execution.proofs.ShortAnswers.{short_number_reply}
 use Rattle.ts_execution.proofs.changes.incr.Goals as goal
 
 pub returns-clause-answer : goal.returns-clause-answer
-returns-clause-answer g c = answered (λ t. Count t) c.args.db.now c.incr.new.self (λ (h : Held). incr h.limits h.state c.args.key c.args.change c.args.time (spec_of c.args.spec)) c.incr.result _ c.number_reply.ensures c.incr.ensures.changed
+returns-clause-answer g c = answered (λ t. Count t) c.args.db.now c.incr.new.self (λ (h : DbState). incr h.limits h.state c.args.key c.args.change c.args.time (spec_of c.args.spec)) c.incr.result _ c.number_reply.ensures c.incr.ensures.changed
 
 pub returns-clause-short : goal.returns-clause-short
 returns-clause-short g c = subst IsShort (sym (c.number_reply.ensures c.args.db.now.ids)) (short_number_reply c.args.db.now.ids c.incr.result c.incr.ensures.bounded)

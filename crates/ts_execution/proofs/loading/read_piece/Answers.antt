@@ -3,15 +3,15 @@ use Rattle.ts_execution.proofs.Carried.{carries_as}
 use Rattle.ts_execution.proofs.Loadings.{loads-done}
 use Rattle.ts_execution.proofs.loading.read_piece.Goals as goal
 
-pub returns-then-take_piece-clause-takes : goal.returns-then-take_piece-clause-takes
-returns-then-take_piece-clause-takes g c = record {
+pub returns-then-replay_piece-clause-takes : goal.returns-then-replay_piece-clause-takes
+returns-then-replay_piece-clause-takes g c = record {
   bytes = take c.in-Ok.count c.read.new.buf;
   took = c.in-Ok.ensures.bytes.0;
   count = sym c.in-Ok.ensures.bound.1;
-  goes = loads-done c.take_piece.result _ _ (take c.in-Ok.count c.read.new.buf) _ _ c.if-take_piece.true c.take_piece.ensures.loads;
-  current = c.take_piece.ensures.current c.if-take_piece.true;
-  within = omega (arith, c.take_piece.ensures.fed, c.in-Ok.ensures.bound.1);
+  goes = loads-done c.replay_piece.result _ _ (take c.in-Ok.count c.read.new.buf) _ _ c.if-replay_piece.true c.replay_piece.ensures.loads;
+  current = c.replay_piece.ensures.current c.if-replay_piece.true;
+  within = omega (arith, c.replay_piece.ensures.fed, c.in-Ok.ensures.bound.1);
 }
 
-pub returns-then-take_piece-clause-carries : goal.returns-then-take_piece-clause-carries
-returns-then-take_piece-clause-carries g c = carries_as _ _ _ _ (λ from to done. tt) c.take_piece.ensures.loads
+pub returns-then-replay_piece-clause-carries : goal.returns-then-replay_piece-clause-carries
+returns-then-replay_piece-clause-carries g c = carries_as _ _ _ _ (λ from to done. tt) c.replay_piece.ensures.loads

@@ -6,11 +6,11 @@ use Rattle.ts_execution.proofs.next_change.next_change.Goals as goal
 
 pub returns-in-Request-clause-finds : goal.returns-in-Request-clause-finds
 returns-in-Request-clause-finds g c =
-    finds-by c.in-Request.words.items c.args.reader.now c.next.new.self c.args.end c.in-Request.ensures.request c.restore_request-answer.result c.found_by.result c.begin.result
-    c.args.db.now c.restore_request-answer.new.db c.found_by.ensures c.begin.ensures c.restore_request-answer.ensures.restores
+    finds-by c.in-Request.words.items c.args.reader.now c.next.new.self c.args.end c.in-Request.ensures.request c.replay_request-answer.result c.next_change_by.result c.begin.result
+    c.args.db.now c.replay_request-answer.new.db c.next_change_by.ensures c.begin.ensures c.replay_request-answer.ensures.replay_matches
 
 pub returns-in-Request-clause-onward : goal.returns-in-Request-clause-onward
-returns-in-Request-clause-onward g c = onward-by c.found_by.result (c.args.reader.now.begin < c.next.new.self.begin) c.in-Request.ensures.progress
+returns-in-Request-clause-onward g c = onward-by c.next_change_by.result (c.args.reader.now.begin < c.next.new.self.begin) c.in-Request.ensures.progress
 
 pub returns-in-NotYet-clause-finds : goal.returns-in-NotYet-clause-finds
 returns-in-NotYet-clause-finds g c = carries_none _ _ (λ from stands. (refl, c.in-NotYet.ensures.same))

@@ -5,9 +5,9 @@ use Rattle.ts_multi.specs.Members.{label_of}
 use Rattle.ts_multi.proofs.LabelLists.{drop-next}
 use Rattle.ts_multi.proofs.member_replies.labels_reply.Goals as goal
 
-pub loop-place-preserved : goal.loop-place-preserved
-loop-place-preserved g c =
-    let next = ap (map shown_label_reply) (drop-next (g.S.ShowsLabels.shown c.args.labels.now) c.loop-place.place (label_of c.label.result) c.label.ensures) in
+pub loop-list_index-preserved : goal.loop-list_index-preserved
+loop-list_index-preserved g c =
+    let next = ap (map shown_label_reply) (drop-next (g.S.ReplyLabelList.shown c.args.labels.now) c.loop-list_index.list_index (label_of c.label.result) c.label.ensures) in
     record {
       so_far = grind (arith, common_steps, next, c.in_ok-label_reply.ensures);
       count = omega arith;

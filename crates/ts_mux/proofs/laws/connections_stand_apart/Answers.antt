@@ -1,9 +1,9 @@
 use Rattle.std.proofs.Common.{refl, sym}
 use Rattle.ts_spec.specs.Run.{is_quit}
-use Rattle.ts_mux.specs.Order.{unsent}
+use Rattle.ts_mux.specs.Order.{nothing_sent}
 use Rattle.ts_mux.proofs.OrderLemmas.{items-without}
 use Rattle.ts_mux.proofs.laws.connections_stand_apart.Goals as goal
 
 pub returns : goal.returns
 returns c = λ link frames.
-    sym (items-without is_quit link (unsent c.args.limits) (unsent c.args.limits) frames (λ at apart before bytes. refl))
+    sym (items-without is_quit link (nothing_sent c.args.limits) (nothing_sent c.args.limits) frames (λ at apart before bytes. refl))

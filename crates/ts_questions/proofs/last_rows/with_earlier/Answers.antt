@@ -12,6 +12,6 @@ returns c =
     let n = c.args.count in
     let found = c.args.found.items in
     ap (map row_of) (c.truncate.ensures.items ∙ ap (take n) c.in_ok-append.ensures.items)
-    ∙ map-take row_of n (found ++ c.turned-earlier.result.items)
-    ∙ ap (take n) (map-append row_of found c.turned-earlier.result.items ∙ ap (λ (rs : List Row). map row_of found ++ rs) c.turned-earlier.ensures)
+    ∙ map-take row_of n (found ++ c.in_requested_order-earlier.result.items)
+    ∙ ap (take n) (map-append row_of found c.in_requested_order-earlier.result.items ∙ ap (λ (rs : List Row). map row_of found ++ rs) c.in_requested_order-earlier.ensures)
     ∙ take-back n n (map row_of found) (reverse (map row_of c.args.earlier.items)) (omega arith)

@@ -4,30 +4,30 @@ use Rattle.std.proofs.lemmas.Result.{err_from_is_err_and}
 use Rattle.ts_spec.specs.Answer.{answer}
 use Rattle.ts_spec.specs.Key.{Key}
 use Rattle.ts_spec.specs.Keyed.{get}
-use Rattle.ts_spec.specs.KeptQuestions.{kept_asked, kept_member}
+use Rattle.ts_spec.specs.StoredQueries.{stored_asked, stored_member}
 use Rattle.ts_spec.specs.Replies.{member_reply}
 use Rattle.ts_spec.specs.Text.{text}
 use Rattle.ts_labels.specs.Show.{show_of}
 use Rattle.ts_range.specs.Query.{query_of, row_of}
 use Rattle.ts_multi.specs.Members.{member_with}
-use Rattle.ts_questions.specs.Asking.{key_asked, answer_asked}
-use Rattle.ts_questions.specs.Bounds.{question_steps}
+use Rattle.ts_questions.specs.Asking.{queried_key, queried_answer}
+use Rattle.ts_questions.specs.Bounds.{series_query_steps}
 use Rattle.ts_questions.specs.Members.{rows_at, IsAdded}
 use Rattle.ts_questions.proofs.Asking.{answer-of, steps-of}
 use Rattle.ts_questions.proofs.MemberTexts.{in-memory-done, memory-fault, member-told, rows-added, rows-some, rows-refused}
 use Rattle.ts_questions.proofs.member.add_rows.Goals as goal
-use Rattle.ts_questions.proofs.member.add_rows.Goals.{After-new-question}
+use Rattle.ts_questions.proofs.member.add_rows.Goals.{After-new-series_query}
 
 -- the answer to the question is that of the key
-module _ (g : _) (c : After-new-question g) (key : Key) (at : get key c.args.db.now.ids ≡ Some c.args.id) where
-  answered : answer_asked c.new-question.result ≡ answer c.args.db.now.limits.empty_rows (query_of c.args.query.now) (kept_asked c.args.db.now.keys c.args.latest key)
-  answered = answer-of c.new-question.result c.args.db.now c.args.latest c.args.query.now key c.new-question.ensures.db c.new-question.ensures.latest c.new-question.ensures.query (c.new-question.ensures.key key at)
+module _ (g : _) (c : After-new-series_query g) (key : Key) (at : get key c.args.db.now.ids ≡ Some c.args.id) where
+  answered : queried_answer c.new-series_query.result ≡ answer c.args.db.now.limits.empty_rows (query_of c.args.query.now) (stored_asked c.args.db.now.keys c.args.latest key)
+  answered = answer-of c.new-series_query.result c.args.db.now c.args.latest c.args.query.now key c.new-series_query.ensures.db c.new-series_query.ensures.latest c.new-series_query.ensures.query (c.new-series_query.ensures.key key at)
 
   -- and so are the steps that it may take
-  few : (new : ℕ) → new ≤ c.args.steps.now + question_steps c.new-question.result.db.now (key_asked c.new-question.result) c.new-question.result.query.now.from c.new-question.result.query.now.to
-      → new ≤ c.args.steps.now + question_steps c.args.db.now key c.args.query.now.from c.args.query.now.to
+  few : (new : ℕ) → new ≤ c.args.steps.now + series_query_steps c.new-series_query.result.db.now (queried_key c.new-series_query.result) c.new-series_query.result.query.now.from c.new-series_query.result.query.now.to
+      → new ≤ c.args.steps.now + series_query_steps c.args.db.now key c.args.query.now.from c.args.query.now.to
   few new = subst (λ (most : ℕ). new ≤ c.args.steps.now + most)
-      (steps-of c.new-question.result c.args.db.now c.args.latest c.args.query.now key c.new-question.ensures.db c.new-question.ensures.latest c.new-question.ensures.query (c.new-question.ensures.key key at))
+      (steps-of c.new-series_query.result c.args.db.now c.args.latest c.args.query.now key c.new-series_query.ensures.db c.new-series_query.ensures.latest c.new-series_query.ensures.query (c.new-series_query.ensures.key key at))
 
 -- there was no memory for the filters
 pub returns-in_default-clause-fault : goal.returns-in_default-clause-fault
@@ -43,14 +43,14 @@ pub returns-in_err-rows-clause-fault : goal.returns-in_err-rows-clause-fault
 returns-in_err-rows-clause-fault g c =
     let p = err_from_is_err_and c.from_residual.result c.from_residual.ensures.1 in
     rw (p.1, p.2) (λ key at.
-    c.in_err-rows.ensures.fault ∙ ap is_none (answered g (goal.at.returns-in_err-rows-clause-fault g c).After-new-question key at)
+    c.in_err-rows.ensures.fault ∙ ap is_none (answered g (goal.at.returns-in_err-rows-clause-fault g c).After-new-series_query key at)
     ∙ rows-refused c.args.db.now.limits c.args.db.now.keys c.args.latest (show_of c.args.show.now) (query_of c.args.query.now) key)
 
 pub returns-in_err-rows-clause-steps : goal.returns-in_err-rows-clause-steps
-returns-in_err-rows-clause-steps g c = λ key at. few g (goal.at.returns-in_err-rows-clause-steps g c).After-new-question key at c.rows_of.new.steps c.rows_of.ensures.steps
+returns-in_err-rows-clause-steps g c = λ key at. few g (goal.at.returns-in_err-rows-clause-steps g c).After-new-series_query key at c.rows_of.new.steps c.rows_of.ensures.steps
 
 pub returns-clause-steps : goal.returns-clause-steps
-returns-clause-steps g c = λ key at. few g (goal.at.returns-clause-steps g c).After-new-question key at c.rows_of.new.steps c.rows_of.ensures.steps
+returns-clause-steps g c = λ key at. few g (goal.at.returns-clause-steps g c).After-new-series_query key at c.rows_of.new.steps c.rows_of.ensures.steps
 
 -- they were told, or there was no memory for that
 pub returns-clause-fault : goal.returns-clause-fault
@@ -60,7 +60,7 @@ returns-clause-fault g c =
     c.in_memory.ensures
     (λ key at.
     sym (rows-some c.args.db.now.limits c.args.db.now.keys c.args.latest (show_of c.args.show.now) (query_of c.args.query.now) key (map row_of c.in_ok-rows.rows.items)
-    (sym (answered g (goal.at.returns-clause-fault g c).After-new-question key at) ∙ c.in_ok-rows.ensures.rows)))
+    (sym (answered g (goal.at.returns-clause-fault g c).After-new-series_query key at) ∙ c.in_ok-rows.ensures.rows)))
 
 pub returns-clause-added : goal.returns-clause-added
 returns-clause-added g c =
@@ -72,8 +72,8 @@ returns-clause-added g c =
     (λ written key at.
     rows-added c.args.db.now.limits m c.args.latest (show_of c.args.show.now) (query_of c.args.query.now) key (map row_of c.in_ok-rows.rows.items)
     (member_with c.args.show.now c.key_of.result.now c.labels_of.result.now (map row_of c.deref.result.now)) c.args.out.now.bytes c.encode_member.new.out.bytes
-    (sym (answered g (goal.at.returns-clause-added g c).After-new-question key at) ∙ c.in_ok-rows.ensures.rows)
+    (sym (answered g (goal.at.returns-clause-added g c).After-new-series_query key at) ∙ c.in_ok-rows.ensures.rows)
     (member-told m c.args.show.now key c.key_of.result.now c.labels_of.result.now (map row_of c.deref.result.now) (c.key_of.ensures.key ∙ c.key_of.ensures.one key at) (c.labels_of.ensures.labels key at)
-    ∙ ap (λ rows. kept_member m (show_of c.args.show.now) key (map row_of rows)) c.deref.ensures.value)
+    ∙ ap (λ rows. stored_member m (show_of c.args.show.now) key (map row_of rows)) c.deref.ensures.value)
     written)
     c.encode_member.ensures.ok

@@ -6,7 +6,7 @@ use Rattle.std.specs.Fmt.{decimal}
 use Rattle.ts_spec.specs.Text.{line_text, text}
 use Rattle.ts_questions.specs.Members.{reply_at}
 use Rattle.ts_questions.proofs.ManyTexts.{so-far-none, so-far-more, none-told, all-told}
-use Rattle.ts_questions.specs.Bounds.{wanted_steps}
+use Rattle.ts_questions.specs.Bounds.{content_steps}
 use Rattle.ts_questions.proofs.MemberBounds.{left-all, left-less, left-few}
 use Rattle.ts_questions.proofs.members.add_members.Goals as goal
 
@@ -14,13 +14,13 @@ pub loop-id-init : goal.loop-id-init
 loop-id-init g c = record {
   told = λ keys are. so-far-none text (reply_at c.args.db.now.limits c.args.db.now.keys c.args.wanted.now) c.args.db.now.ids keys c.args.ids.now
       (c.args.out.now.bytes ++ line_text 42 (decimal (length c.args.ids.now))) c.begin_members-lost.new.out.bytes c.begin_members-lost.result are c.begin_members-lost.ensures.begun;
-  steps = λ keys are. left-all (wanted_steps c.args.db.now c.args.wanted.now) c.args.db.now.ids keys c.args.ids.now c.args.steps.now are;
+  steps = λ keys are. left-all (content_steps c.args.db.now c.args.wanted.now) c.args.db.now.ids keys c.args.ids.now c.args.steps.now are;
   room = c.begin_members-lost.ensures.room;
 }
 
 pub returns-in_err-lost-clause-steps : goal.returns-in_err-lost-clause-steps
 returns-in_err-lost-clause-steps g c = λ keys are.
-    let most = wanted_steps c.args.db.now c.args.wanted.now in
+    let most = content_steps c.args.db.now c.args.wanted.now in
     let ids = c.args.db.now.ids in
     left-few most ids keys (drop (c.loop-id.id-index + 1) c.args.ids.now) c.args.steps.now c.add_next.new.steps
     (left-less most ids keys _ (drop c.loop-id.id-index c.args.ids.now) (drop (c.loop-id.id-index + 1) c.args.ids.now) c.args.steps.now c.loop-id.steps c.add_next.new.steps
@@ -46,7 +46,7 @@ loop-id-preserved g c = record {
       (c.loop-id.invariant.told keys are)
       c.in_ok-lost.ensures.stays
       c.in_ok-lost.ensures.added;
-  steps = λ keys are. left-less (wanted_steps c.args.db.now c.args.wanted.now) c.args.db.now.ids keys _
+  steps = λ keys are. left-less (content_steps c.args.db.now c.args.wanted.now) c.args.db.now.ids keys _
       (drop c.loop-id.id-index c.args.ids.now) (drop (c.loop-id.id-index + 1) c.args.ids.now)
       c.args.steps.now c.loop-id.steps c.add_next.new.steps
       (drop_more c.args.ids.now c.loop-id.id-index _ c.loop-id-test.true)
@@ -65,4 +65,4 @@ returns-clause-added g c = λ keys are.
 
 pub returns-clause-steps : goal.returns-clause-steps
 returns-clause-steps g c = λ keys are.
-    left-few (wanted_steps c.args.db.now c.args.wanted.now) c.args.db.now.ids keys (drop c.loop-id.id-index c.args.ids.now) c.args.steps.now c.loop-id.steps (c.loop-id.invariant.steps keys are)
+    left-few (content_steps c.args.db.now c.args.wanted.now) c.args.db.now.ids keys (drop c.loop-id.id-index c.args.ids.now) c.args.steps.now c.loop-id.steps (c.loop-id.invariant.steps keys are)

@@ -8,15 +8,15 @@ use Rattle.ts_range.specs.declared.filters.Filters.{Filters}
 use Rattle.ts_range.specs.declared.query.Query.{Query}
 use Rattle.ts_range.specs.Query.{buckets_of, query_of, row_of}
 use Rattle.ts_range.specs.Filters.{passes}
-use Rattle.ts_range.specs.Walking.{rows_chosen}
+use Rattle.ts_range.specs.RowScanState.{rows_passing}
 use Rattle.ts_range.proofs.Whole.{chosen-rows, none-filled}
 use Rattle.ts_range.proofs.answers.rows.Goals as goal
 
 -- the samples that the filters let through are those that the question selects
-chosen : (q : Query) (f : Filters) (samples l : List Point) → ((p : Point) → passes f p ≡ spec.is_let_through (query_of q) p) → between q.from q.to l ≡ samples
+chosen : (q : Query) (f : Filters) (samples l : List Point) → ((p : Point) → passes f p ≡ spec.passes_filters (query_of q) p) → between q.from q.to l ≡ samples
     → filter (passes f) samples ≡ spec.selected (query_of q) l
 chosen q f samples l lets rows =
-    filter_agree (passes f) (spec.is_let_through (query_of q)) lets samples ∙ ap (filter (spec.is_let_through (query_of q))) (sym rows)
+    filter_agree (passes f) (spec.passes_filters (query_of q)) lets samples ∙ ap (filter (spec.passes_filters (query_of q))) (sym rows)
 
 pub returns-in_default : goal.returns-in_default
 returns-in_default c = λ l rises is.
@@ -24,12 +24,12 @@ returns-in_default c = λ l rises is.
     let samples = c.deref.ensures.value in
     let lets : filter (passes c.in_ok-filters.filters) c.deref.result.now ≡ spec.selected (query_of q) l =
     ap (filter (passes c.in_ok-filters.filters)) samples ∙ chosen q c.in_ok-filters.filters c.args.asked.now.rows.items l c.in_ok-filters.ensures is.rows in
-    IfOk-weaker c.walked_rows.result _ _
-    (λ rows told. told ∙ ap (λ (ps : List Point). spec.first_ones q.count (spec.turned q.reverse (rows_chosen (option_map buckets_of q.buckets) l ps))) lets
+    IfOk-weaker c.scanned_rows.result _ _
+    (λ rows told. told ∙ ap (λ (ps : List Point). spec.limit_rows q.count (spec.in_requested_order q.reverse (rows_passing (option_map buckets_of q.buckets) l ps))) lets
     ∙ sym (chosen-rows (query_of q) l (option_map buckets_of q.buckets) refl (none-filled q c.in_default.ensures.none q.buckets refl)))
-    (c.walked_rows.ensures l)
+    (c.scanned_rows.ensures l)
 
 pub returns-then-query : goal.returns-then-query
 returns-then-query c = λ l rises is.
-    c.turned.ensures ∙ ap (λ (b : Bool). spec.turned b (map row_of c.in_ok-rows.rows.items)) (sym c.if-query.true)
-    ∙ c.in_ok-rows.ensures l c.in-Some.buckets rises is c.in-Some.ensures.some c.in-Some-of.ensures.stretch
+    c.in_requested_order.ensures ∙ ap (λ (b : Bool). spec.in_requested_order b (map row_of c.in_ok-rows.rows.items)) (sym c.if-query.true)
+    ∙ c.in_ok-rows.ensures l c.in-Some.buckets rises is c.in-Some.ensures.some c.in-Some-of.ensures.bucket_range

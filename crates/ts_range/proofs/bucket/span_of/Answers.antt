@@ -7,4 +7,4 @@ pub returns-clause-span : goal.returns-clause-span
 returns-clause-span c =
     let begins : start c.args.grid.now c.start_of-start.result ≡ c.start_of-start.result =
     rw c.start_of-start.ensures (start-start c.args.grid.now c.args.t (omega (arith, c.known.ensures.some))) in
-    record { grid = c.known.ensures; begins = begins; ends = c.last_from.ensures.last begins }
+    record { grid = c.known.ensures; begins = begins; ends = c.last_time_of_bucket.ensures.last begins }

@@ -3,7 +3,7 @@ use Rattle.ts_spec.specs.declared.wire.Kind.TheVariants.{Bulk, Dollar, TooLarge}
 use Rattle.ts_spec.specs.Wire.{Request, Partial, Mark, Length, LengthFeed, DOLLAR, Goto, Blank, Move, after_length}
 use Rattle.ts_resp.specs.declared.header.Header.TheVariants as header
 use Rattle.ts_resp.specs.Headers.{IsHeader}
-use Rattle.ts_spec.proofs.Lines.{want-other, length_fed, length_ends-room, length_ends-goes}
+use Rattle.ts_spec.proofs.Lines.{expect_byte-other, length_fed, length_ends-room, length_ends-goes}
 use Rattle.ts_resp.proofs.HeaderLemmas.{of_slice, length_led, IsHeader-none, IsHeader-first, IsHeader-open, IsHeader-wrong, IsHeader-room, IsHeader-feed}
 use Rattle.ts_resp.proofs.header.length_header.Goals as goal
 
@@ -21,7 +21,7 @@ returns-in_default-clause-meaning c = λ words later.
 pub returns-then-first-ne36-clause-meaning : goal.returns-then-first-ne36-clause-meaning
 returns-then-first-ne36-clause-meaning c = λ words later.
     of_slice (λ bytes. IsHeader c.args.limits.now (Mark (at words later c.args.room)) (next words later c.args.room) bytes (header.Broken Dollar 0)) c.args.bytes.now c.in-len1-up.len_at_least
-    (IsHeader-first _ _ (next words later c.args.room) _ _ _ (want-other _ DOLLAR Dollar (Goto (Length (at words later c.args.room) Blank)) c.if-first-ne36.true))
+    (IsHeader-first _ _ (next words later c.args.room) _ _ _ (expect_byte-other _ DOLLAR Dollar (Goto (Length (at words later c.args.room) Blank)) c.if-first-ne36.true))
 
 pub returns-in-Open-clause-meaning : goal.returns-in-Open-clause-meaning
 returns-in-Open-clause-meaning c = λ words later.

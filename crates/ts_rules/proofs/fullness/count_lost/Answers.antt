@@ -2,7 +2,7 @@ use Rattle.std.proofs.Common.{◌≡◌, ◌+◌, Some, List, length, sym, ap, �
 use Rattle.ts_spec.specs.Sample.{Point, IsAscending, first_of}
 use Rattle.ts_spec.specs.Rules.{is_past}
 use Rattle.ts_rules.proofs.Meeting.{met-lost, met-shown, met-ended_gone, counts-one}
-use Rattle.ts_rules.proofs.Walks.{ascending-rest, rest-length}
+use Rattle.ts_rules.proofs.IntervalReading.{ascending-rest, rest-length}
 use Rattle.ts_rules.proofs.fullness.count_lost.Goals as goal
 
 pub loop-lost-preserved-then-start-sample : goal.loop-lost-preserved-then-start-sample

@@ -2,7 +2,7 @@ use Rattle.std.proofs.Common.{◌≡◌, List, ◌&&◌, max, nat_le, length, re
 use Rattle.ts_spec.specs.Sample.{Point, IsAscending, at_times, between, is_within}
 use Rattle.ts_spec.specs.Bucket.{start}
 use Rattle.ts_spec.specs.Rules.{is_past}
-use Rattle.ts_spec.specs.Mending.{lies_in}
+use Rattle.ts_spec.specs.StoredUpdates.{lies_in}
 use Rattle.ts_spec.proofs.Buckets.{start-le}
 use Rattle.ts_spec.proofs.Samples.{ascending-times}
 use Rattle.ts_series.specs.History.{list_of}

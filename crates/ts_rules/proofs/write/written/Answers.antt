@@ -38,4 +38,4 @@ returns-then-open-start-clause-rule g c =
 pub returns-clause-rule : goal.returns-clause-rule
 returns-clause-rule g c =
     told-here (is_append c.args.wrote.now.time c.args.source.now.high) c.args.wrote.now (put c.args.wrote.now (list_of c.args.source.now)) c.args.rule.now c.opened-2.result c.start_of-start.result
-    (c.start_of-start.ensures ∙ ap (λ (p : Point). start c.args.rule.now.grid p.time) c.wrote.view_is) c.grown-running.result c.in-Some.open c.opened-2.ensures c.grown-running.ensures.running c.in-Some.is c.if-start-open.false c.if-open-start.false
+    (c.start_of-start.ensures ∙ ap (λ (p : Point). start c.args.rule.now.grid p.time) c.wrote.view_is) c.open_bucket_after-running.result c.in-Some.open c.opened-2.ensures c.open_bucket_after-running.ensures.running c.in-Some.is c.if-start-open.false c.if-open-start.false

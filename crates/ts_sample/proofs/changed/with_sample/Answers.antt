@@ -5,5 +5,5 @@ use Rattle.ts_sample.proofs.changed.with_sample.Goals as goal
 
 pub cut_into-requires-clause-ascending : goal.cut_into-requires-clause-ascending
 cut_into-requires-clause-ascending g c =
-    subst IsAscending (sym (c.deref.ensures.value ∙ c.in_ok-put_at_its_time.ensures ∙ ap (put c.args.sample.now) c.in_ok-samples.ensures.list))
+    subst IsAscending (sym (c.deref.ensures.value ∙ c.in_ok-insert_or_replace.ensures ∙ ap (put c.args.sample.now) c.in_ok-samples.ensures.list))
     (ascending-put c.args.sample.now (g.C.Chunk.list c.args.chunk.now) c.known.ensures.ascending)

@@ -1,5 +1,5 @@
 use Rattle.ts_spec.proofs.Allowed.{empty-valid}
-use Rattle.ts_spec.proofs.KeptSteps.{step-valid}
+use Rattle.ts_spec.proofs.StoredSteps.{step-valid}
 use Rattle.ts_spec.proofs.laws.each_step_keeps_a_state_valid.Goals as goal
 
 pub returns : goal.returns

@@ -1,14 +1,14 @@
 use Rattle.std.proofs.Common.{◌∙◌, subst}
 use Rattle.std.proofs.lemmas.List.{append_cancel_right}
 use Rattle.ts_chunk_packed.specs.Marks.{AreMarks}
-use Rattle.ts_chunk_packed.specs.Rest.{IsRestOf}
+use Rattle.ts_chunk_packed.specs.Decoder.{IsUndecodedOf}
 use Rattle.ts_chunk_packed.proofs.Late.{same_front, if_ok}
 use Rattle.ts_chunk_packed.proofs.Starting.{rest_at}
 use Rattle.ts_chunk_packed.proofs.chunk.PackedChunk.front.Goals as goal
 use Rattle.ts_chunk_packed.proofs.chunk.PackedChunk.front.Goals.{After-pass_before}
 
 -- what is left, past the samples before the time
-abbrev of : (c : After-pass_before) → IsRestOf c.args.self.now.list c.pass_before.new.rest
+abbrev of : (c : After-pass_before) → IsUndecodedOf c.args.self.now.list c.pass_before.new.rest
 of c = rest_at c.args.time c.args.self.now.list c.known.ensures.ascending c.pass_before.new.rest c.pass_before.ensures.list c.pass_before.ensures.state
 
 pub pass_before-requires-clause-marks : goal.pass_before-requires-clause-marks

@@ -1,7 +1,7 @@
 use Rattle.std.proofs.Common.{Bor, sym, subst, arith}
 use Rattle.std.specs.Prelude.{Option, IfSome}
-use Rattle.ts_chunk_packed.specs.Marks.{Marked, IsMark}
-use Rattle.ts_chunk_packed.specs.Rest.{IsRestPast}
+use Rattle.ts_chunk_packed.specs.Marks.{MarkState, IsMark}
+use Rattle.ts_chunk_packed.specs.Decoder.{IsUndecodedPast}
 use Rattle.ts_chunk_packed.proofs.Starting.{mark_at, mark_count, mark_left, mark_rest, first_left, first_rest, where_none}
 use Rattle.ts_chunk_packed.proofs.chunk.PackedChunk.rest_at.Goals as goal
 use Rattle.ts_chunk_packed.proofs.chunk.PackedChunk.rest_at.Goals.{In-Some}
@@ -15,7 +15,7 @@ returns-in_default-clause-all c =
     (first_rest c.self.invariant c.self.view_is c.new.result c.new.ensures c.deref.result.now c.deref.ensures.value c.new-in_default.result c.new-in_default.ensures.state c.new-in_default.ensures.list)
 
 mark : (c : In-Some) → IsMark c.args.self.now.list c.in-Some.mark.now
-mark c = subst (λ (o : Option (Bor Marked)). IfSome o (λ b. IsMark c.args.self.now.list b.now)) c.in-Some.is c.requires
+mark c = subst (λ (o : Option (Bor MarkState)). IfSome o (λ b. IsMark c.args.self.now.list b.now)) c.in-Some.is c.requires
 
 pub slice_bounds-bytes-count : goal.slice_bounds-bytes-count
 slice_bounds-bytes-count c =
@@ -36,7 +36,7 @@ new-requires-2 c =
 
 pub returns-clause-past : goal.returns-clause-past
 returns-clause-past c =
-    subst (λ (o : Option (Bor Marked)). IfSome o (λ b. IsRestPast b.now.count c.args.self.now.list c.new-2.result)) (sym c.in-Some.is)
+    subst (λ (o : Option (Bor MarkState)). IfSome o (λ b. IsUndecodedPast b.now.count c.args.self.now.list c.new-2.result)) (sym c.in-Some.is)
     (mark_rest c.self.invariant c.self.view_is c.in-Some.mark.now (mark (goal.at.returns-clause-past c).In-Some)
     c.deref-2.result.now c.deref-2.ensures.value c.at.result c.at.ensures c.count.result c.count.ensures c.context.result c.context.ensures
     c.new-2.result c.new-2.ensures.state c.new-2.ensures.list)

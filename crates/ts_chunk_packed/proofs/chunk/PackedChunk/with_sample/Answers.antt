@@ -16,21 +16,21 @@ returns-then-not-try_append-clause-full c =
     front_too_long c.args.sample.now c.args.self.now.list c.known.ensures.ascending (ap (λ (q : Point). q.time) c.sample.view_is) c.in_ok-chunk.ensures.list c.in_ok-chunk.ensures.rest
     c.in_ok-chunk.chunk.limit c.args.self.now.limit c.in_ok-chunk.ensures.limit c.if-not-try_append.ensures.fits
 
-pub take_over-requires-clause-ascending : goal.take_over-requires-clause-ascending
-take_over-requires-clause-ascending c =
+pub append_remaining-requires-clause-ascending : goal.append_remaining-requires-clause-ascending
+append_remaining-requires-clause-ascending c =
     rises_all c.args.sample.now c.args.self.now.list c.known.ensures.ascending (ap (λ (q : Point). q.time) c.sample.view_is) c.in_ok-chunk.ensures.list c.in_ok-chunk.ensures.rest
     c.if-not-try_append.ensures.list c.pass_before.ensures.list
 
-pub take_over-requires-clause-of : goal.take_over-requires-clause-of
-take_over-requires-clause-of c =
+pub append_remaining-requires-clause-of : goal.append_remaining-requires-clause-of
+append_remaining-requires-clause-of c =
     let here = rest_at c.sample.inside.time c.args.self.now.list c.known.ensures.ascending c.front.new.rest c.in_ok-chunk.ensures.rest c.in_ok-chunk.ensures.state in
     times_passed c.args.self.now.list c.front.new.rest c.pass_before.new.self here (c.sample.inside.time + 1) c.known.ensures.ascending c.pass_before.ensures.list c.pass_before.ensures.state
 
-pub returns-then-not-take_over-clause-full : goal.returns-then-not-take_over-clause-full
-returns-then-not-take_over-clause-full c =
+pub returns-then-not-append_remaining-clause-full : goal.returns-then-not-append_remaining-clause-full
+returns-then-not-append_remaining-clause-full c =
     all_too_long c.args.sample.now c.args.self.now.list c.known.ensures.ascending (ap (λ (q : Point). q.time) c.sample.view_is) c.in_ok-chunk.ensures.list c.in_ok-chunk.ensures.rest
     c.if-not-try_append.ensures.list c.pass_before.ensures.list
-    c.try_append.new.self.limit c.args.self.now.limit (c.if-not-try_append.ensures.limit ∙ c.in_ok-chunk.ensures.limit) c.if-not-take_over.ensures.fits
+    c.try_append.new.self.limit c.args.self.now.limit (c.if-not-try_append.ensures.limit ∙ c.in_ok-chunk.ensures.limit) c.if-not-append_remaining.ensures.fits
 
 pub overflow_sub-result : goal.overflow_sub-result
 overflow_sub-result c =
@@ -41,7 +41,7 @@ overflow_sub-result c =
       arith,
       c.len.ensures,
       c.len-count.ensures,
-      c.if-not-take_over.ensures.shorter,
+      c.if-not-append_remaining.ensures.shorter,
       ap length c.pass_before.ensures.list,
       no_more (c.sample.inside.time + 1) c.front.new.rest.list,
       ap length here,
@@ -50,5 +50,5 @@ overflow_sub-result c =
 
 pub returns-clause-list : goal.returns-clause-list
 returns-clause-list c =
-    c.if-not-take_over.ensures.list refl ∙ all_put c.args.sample.now c.args.self.now.list c.known.ensures.ascending (ap (λ (q : Point). q.time) c.sample.view_is) c.in_ok-chunk.ensures.list c.in_ok-chunk.ensures.rest
+    c.if-not-append_remaining.ensures.list refl ∙ all_put c.args.sample.now c.args.self.now.list c.known.ensures.ascending (ap (λ (q : Point). q.time) c.sample.view_is) c.in_ok-chunk.ensures.list c.in_ok-chunk.ensures.rest
     c.if-not-try_append.ensures.list c.pass_before.ensures.list

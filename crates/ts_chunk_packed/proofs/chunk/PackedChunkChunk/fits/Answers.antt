@@ -4,8 +4,8 @@ use Rattle.ts_chunk_packed.specs.Packed.{State, coded}
 use Rattle.ts_chunk_packed.proofs.Pushing.{surely_fits, fits_more, later}
 use Rattle.ts_chunk_packed.proofs.chunk.PackedChunkChunk.fits.Goals as goal
 
-pub returns-then-room-ge-WIDEST : goal.returns-then-room-ge-WIDEST
-returns-then-room-ge-WIDEST c =
+pub returns-then-room-ge-MAX_SAMPLE_BYTES : goal.returns-then-room-ge-MAX_SAMPLE_BYTES
+returns-then-room-ge-MAX_SAMPLE_BYTES c =
     let f = c.self.inside in
     let len : c.len.result ≡ length f.bytes.items = search rules in
     surely_fits c.self.invariant.packed c.self.view_is c.args.sample.now c.known.ensures c.requires.past (omega arith)

@@ -1,6 +1,6 @@
 use Rattle.std.proofs.Common.{ap, ◌∙◌, sym, subst}
 use Rattle.ts_spec.specs.Sample.{IsAscending}
-use Rattle.ts_sample.specs.Chunk.{AreFine}
+use Rattle.ts_sample.specs.Chunk.{AreInBounds}
 use Rattle.ts_chunk_plain.specs.Chunk.{Samples}
 use Rattle.ts_chunk_plain.proofs.Scanning.{pieces_are}
 use Rattle.ts_chunk_plain.proofs.chunk.PlainChunk.pieces.Goals as goal
@@ -11,5 +11,5 @@ returns c =
     record {
       list = are ∙ ap (λ (x : Samples). x.list) c.self.view_is;
       ascending = subst IsAscending (sym are) c.self.invariant.chunk.ascending;
-      fine = subst AreFine (sym are) c.self.invariant.chunk.fine;
+      fine = subst AreInBounds (sym are) c.self.invariant.chunk.fine;
     }

@@ -1,7 +1,7 @@
 use Rattle.std.proofs.Common.{◌≡◌, List, sym, ◌∙◌, ap}
 use Rattle.std.specs.Prelude.{nat_lt, Option, Ok}
 use Rattle.ts_spec.specs.Sample.{Point, at_times, last_of}
-use Rattle.ts_spec.specs.Questions.{asked}
+use Rattle.ts_spec.specs.Queries.{asked}
 use Rattle.ts_db.proofs.Asking.{finds-no-key, finds-there}
 use Rattle.ts_db.proofs.Laws.{asked-law}
 use Rattle.ts_db.proofs.db.Db.before.Goals as goal

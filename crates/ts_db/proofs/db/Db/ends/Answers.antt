@@ -1,7 +1,7 @@
 use Rattle.std.proofs.Common.{◌≡◌, ℕ, sym, ◌∙◌, ap}
 use Rattle.std.specs.Prelude.{Option, Ok}
-use Rattle.ts_spec.specs.Questions.{asked}
-use Rattle.ts_db.specs.Held.{ends_of}
+use Rattle.ts_spec.specs.Queries.{asked}
+use Rattle.ts_db.specs.DbState.{ends_of}
 use Rattle.ts_db.proofs.Asking.{finds-no-key, finds-there}
 use Rattle.ts_db.proofs.Laws.{asked-law}
 use Rattle.ts_db.proofs.db.Db.ends.Goals as goal

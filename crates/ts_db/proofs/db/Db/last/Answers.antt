@@ -1,7 +1,7 @@
 use Rattle.std.proofs.Common.{◌≡◌, sym, ◌∙◌, ap}
 use Rattle.std.specs.Prelude.{Option, Ok}
 use Rattle.ts_spec.specs.Sample.{Point, last_of}
-use Rattle.ts_spec.specs.Questions.{asked}
+use Rattle.ts_spec.specs.Queries.{asked}
 use Rattle.ts_db.proofs.Asking.{finds-no-key, finds-there}
 use Rattle.ts_db.proofs.Laws.{asked-law}
 use Rattle.ts_db.proofs.db.Db.last.Goals as goal

@@ -1,5 +1,5 @@
 use Rattle.std.proofs.Common.{sym, subst}
-use Rattle.ts_db.specs.Held.{Stock, IsLive}
+use Rattle.ts_db.specs.DbState.{DbView, IsLive}
 use Rattle.ts_db.proofs.Asking.{numbered-holds, node-live, node-shows}
 use Rattle.ts_db.proofs.Destinations.{with-number, only-with}
 use Rattle.ts_db.proofs.Indexing.{contains}
@@ -7,7 +7,7 @@ use Rattle.ts_db.proofs.db.Db.node.Goals as goal
 
 pub node-requires : goal.node-requires
 node-requires c =
-    let of = node-live c.self.inside.store c.self.invariant.store c.args.id (subst (λ (stock : Stock). IsLive stock.ids c.args.id) (sym c.self.view_is) c.requires) in
+    let of = node-live c.self.inside.store c.self.invariant.store c.args.id (subst (λ (db_view : DbView). IsLive db_view.ids c.args.id) (sym c.self.view_is) c.requires) in
     contains c.self.inside.store.nodes c.args.id of.0 of.1
 
 pub returns-clause-numbered : goal.returns-clause-numbered

@@ -1,11 +1,11 @@
 use Rattle.std.proofs.Common.{◌≡◌, ◌+◌, ◌<◌, ◌^◌, length, sym, ◌∙◌, ap, subst, arith, rules}
 use Rattle.std.specs.Prelude.{sum_by}
 use Rattle.ts_spec.specs.Keyed.{Entry}
-use Rattle.ts_spec.specs.Kept.{Kept}
+use Rattle.ts_spec.specs.StoredSeries.{StoredSeries}
 use Rattle.ts_series.specs.History.{list_of}
-use Rattle.ts_db.specs.Held.{reach_at}
+use Rattle.ts_db.specs.DbState.{reach_at}
 use Rattle.ts_db.specs.Bounds.{reach_of_all}
-use Rattle.ts_db.specs.Store.{stock_of}
+use Rattle.ts_db.specs.Store.{db_view_of}
 use Rattle.ts_db.specs.Totals.{samples_in}
 use Rattle.ts_db.proofs.Laws.{total-law}
 use Rattle.ts_db.proofs.Selecting.{HaveNodes, listing, listing-entries, all-there}
@@ -45,13 +45,13 @@ returns-clause-each g c = rw (← c.self.view_is) (λ held st.
     let none : samples_in (listing nodes c.loop-key._key-iterator) ≡ 0 = ap (λ l. samples_in (listing nodes l)) c.in-None.ensures.steps.0 in
     let count : c.loop-key.total ≡ samples_in (listing nodes es) = omega (arith, c.loop-key.invariant.sum, none) in
     count ∙ sym (ap samples_in (listing-entries nodes es c.iter-key-items.ensures.ordered (all-there nodes es es c.self.invariant.store.stored c.iter-key-items.ensures.found)))
-    ∙ total-law (stock_of c.self.inside.store) held st)
+    ∙ total-law (db_view_of c.self.inside.store) held st)
 
 pub returns-clause-steps : goal.returns-clause-steps
 returns-clause-steps g c =
     let nodes = c.self.inside.store.nodes in
     let es = c.self.inside.store.keys.entries in
     let there : HaveNodes nodes es = all-there nodes es es c.self.invariant.store.stored c.iter-key-items.ensures.found in
-    let all : reach_of_all (stock_of c.self.inside.store) ≡ reaches nodes es =
-    ap (sum_by (λ (e : Entry Kept). reach_at (stock_of c.self.inside.store) e.key)) (listing-entries nodes es c.iter-key-items.ensures.ordered there) ∙ reaches-listing nodes es es there c.iter-key-items.ensures.found in
+    let all : reach_of_all (db_view_of c.self.inside.store) ≡ reaches nodes es =
+    ap (sum_by (λ (e : Entry StoredSeries). reach_at (db_view_of c.self.inside.store) e.key)) (listing-entries nodes es c.iter-key-items.ensures.ordered there) ∙ reaches-listing nodes es es there c.iter-key-items.ensures.found in
     rw (← c.self.view_is) (record { counted = c.loop-key.invariant.counted; bounded = omega (arith, c.loop-key.invariant.steps, all) })

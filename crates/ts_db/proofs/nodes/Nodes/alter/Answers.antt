@@ -13,8 +13,8 @@ invariant_of-self-2 c =
     let one : c.index.result.now ≡ c.index_mut-node.result.now = some-same c.index.result.now c.index_mut-node.result.now (sym c.index.ensures ∙ c.index_mut-node.ensures.value) in
     let labels : unwrap_or c.args.labels c.index.result.now.labels ≡ c.change.new.self.labels =
     ap (λ (n : Node). unwrap_or c.args.labels n.labels) one ∙ sym (ap (λ (n : Node). n.labels) c.change.ensures) in
-    indexed-altered c.self.inside.slab c.self.inside.index c.take_up.new.index c.args.id c.index_mut-node.result.now c.change.new.self (c.index_mut-node.ensures.value)
-    (subst (λ (ls : List Label). Relabels c.args.id (Some ls) c.self.inside.index c.take_up.new.index) labels c.in_ok-take_up.ensures.ok) c.self.invariant
+    indexed-altered c.self.inside.slab c.self.inside.index c.replace_labels.new.index c.args.id c.index_mut-node.result.now c.change.new.self (c.index_mut-node.ensures.value)
+    (subst (λ (ls : List Label). Relabels c.args.id (Some ls) c.self.inside.index c.replace_labels.new.index) labels c.in_ok-replace_labels.ensures.ok) c.self.invariant
 
 pub returns-clause-altered : goal.returns-clause-altered
 returns-clause-altered c =

@@ -1,8 +1,8 @@
 use Rattle.std.proofs.Common.{refl, sym, ◌∙◌, ap, arith}
-use Rattle.ts_spec.specs.KeptStep.{kept_alter_at}
+use Rattle.ts_spec.specs.StoredStep.{stored_alter_at}
 use Rattle.ts_labels.specs.Spec.{change_of}
 use Rattle.ts_series.proofs.Effects.{alters-is}
-use Rattle.ts_db.specs.Store.{stock_of, contents_of, Contents, Holds, IsNode}
+use Rattle.ts_db.specs.Store.{db_view_of, contents_of, Contents, Holds, IsNode}
 use Rattle.ts_db.proofs.Storing.{missing}
 use Rattle.ts_db.proofs.Changing.{few-altered, altered-within, alter-longer, alter-yields, alter-answers}
 use Rattle.ts_db.proofs.Reaches.{reach-held}
@@ -10,7 +10,7 @@ use Rattle.ts_db.proofs.store.Store.alter.Goals as goal
 
 pub returns-in_default-clause-altered : goal.returns-in_default-clause-altered
 returns-in_default-clause-altered g c = (
-  ap (kept_alter_at c.args.self.now.limits (stock_of c.args.self.now).keys c.args.key.now (change_of c.args.change)) (missing c.args.self.now.limits c.args.self.now.nodes c.args.self.now.keys.entries c.requires c.args.key.now (sym (c.in_default.ensures ∙ c.get.ensures.value))),
+  ap (stored_alter_at c.args.self.now.limits (db_view_of c.args.self.now).keys c.args.key.now (change_of c.args.change)) (missing c.args.self.now.limits c.args.self.now.nodes c.args.self.now.keys.entries c.requires c.args.key.now (sym (c.in_default.ensures ∙ c.get.ensures.value))),
   refl,
 )
 
@@ -66,7 +66,7 @@ pub returns-in-Err-relabel-clause-altered : goal.returns-in-Err-relabel-clause-a
 returns-in-Err-relabel-clause-altered g c =
     let holds : Holds c.args.self.now c.args.key.now c.in-Some.id c.node-node.result.now = record { number = sym (c.in-Some.ensures ∙ c.get.ensures.value); node = c.node-node.ensures } in (
       alter-yields c.args.self.now c.requires c.args.key.now c.in-Some.id c.node-node.result.now holds (change_of c.args.change) (sym c.are_too_many.ensures ∙ c.if-are_too_many.false),
-      ap stock_of c.in-Err-relabel.ensures.unchanged,
+      ap db_view_of c.in-Err-relabel.ensures.unchanged,
     )
 
 pub returns-in-Err-relabel-clause-steps : goal.returns-in-Err-relabel-clause-steps

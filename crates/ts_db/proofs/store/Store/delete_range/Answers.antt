@@ -1,9 +1,9 @@
 use Rattle.std.proofs.Common.{true, false, refl, sym, ◌∙◌, ap, subst, lt-ltb, le-ltb}
-use Rattle.ts_spec.specs.KeptStep.{KeptOutcome, kept_delete_at}
+use Rattle.ts_spec.specs.StoredStep.{StoredOutcome, stored_delete_at}
 use Rattle.ts_spec.specs.Key.{Key}
 use Rattle.ts_sample.specs.Steps.{Takes}
-use Rattle.ts_db.specs.Store.{stock_of, Holds}
-use Rattle.ts_db.specs.Answering.{KeptNumber}
+use Rattle.ts_db.specs.Store.{db_view_of, Holds}
+use Rattle.ts_db.specs.Answering.{StoredCount}
 use Rattle.ts_db.specs.Bounds.{deletion_steps}
 use Rattle.ts_db.proofs.Destinations.{only-key}
 use Rattle.ts_db.proofs.Storing.{missing}
@@ -12,7 +12,7 @@ use Rattle.ts_db.proofs.store.Store.delete_range.Goals as goal
 
 pub returns-in_default-clause-deleted : goal.returns-in_default-clause-deleted
 returns-in_default-clause-deleted g c = (
-  ap (kept_delete_at c.args.self.now.limits (stock_of c.args.self.now).keys c.args.key.now c.args.from c.args.to) (missing c.args.self.now.limits c.args.self.now.nodes c.args.self.now.keys.entries c.requires.db.store c.args.key.now (sym (c.in_default.ensures ∙ c.get.ensures.value))),
+  ap (stored_delete_at c.args.self.now.limits (db_view_of c.args.self.now).keys c.args.key.now c.args.from c.args.to) (missing c.args.self.now.limits c.args.self.now.nodes c.args.self.now.keys.entries c.requires.db.store c.args.key.now (sym (c.in_default.ensures ∙ c.get.ensures.value))),
   refl,
 )
 
@@ -40,12 +40,12 @@ pub returns-clause-deleted : goal.returns-clause-deleted
 returns-clause-deleted g c =
     let n = c.node-node.result.now in
     let holds : Holds c.args.self.now c.args.key.now c.in-Some.id n = record { number = sym (c.in-Some.ensures ∙ c.get.ensures.value); node = c.node-node.ensures } in
-    subst (λ (step : KeptOutcome). KeptNumber (stock_of c.args.self.now) step c.delete.result (stock_of c.delete.new.self))
+    subst (λ (step : StoredOutcome). StoredCount (db_view_of c.args.self.now) step c.delete.result (db_view_of c.delete.new.self))
     (sym (delete-done c.args.self.now c.requires.db.store c.args.key.now c.in-Some.id n holds c.args.from c.args.to (le-ltb c.args.to c.args.from c.if-to-from.false)
     (expired-at c.args.self.now n c.args.from c.edge.result c.deref.result.now c.meet_expired.result false c.edge.ensures c.deref.ensures.value c.meet_expired.ensures c.if-meet_expired.false)))
     (c.delete.ensures.deleted c.args.key.now n holds)
 
 pub returns-clause-steps : goal.returns-clause-steps
 returns-clause-steps g c =
-    subst (λ (key : Key). Takes c.args.steps.now c.delete.new.steps (deletion_steps (stock_of c.args.self.now) key c.args.from c.args.to))
+    subst (λ (key : Key). Takes c.args.steps.now c.delete.new.steps (deletion_steps (db_view_of c.args.self.now) key c.args.from c.args.to))
     (only-key c.args.self.now c.requires.db.store c.in-Some.id (record { node = c.node-node.result.now; there = c.node-node.ensures }) c.args.key.now (sym (c.in-Some.ensures ∙ c.get.ensures.value))) c.delete.ensures.steps

@@ -1,7 +1,7 @@
 use Rattle.std.proofs.Common.{refl, sym, ◌∙◌, ap}
 use Rattle.ts_spec.specs.Response.{Done}
-use Rattle.ts_spec.specs.KeptStep.{kept_delete_rule_at}
-use Rattle.ts_db.specs.Store.{stock_of, Contents, Holds}
+use Rattle.ts_spec.specs.StoredStep.{stored_delete_rule_at}
+use Rattle.ts_db.specs.Store.{db_view_of, Contents, Holds}
 use Rattle.ts_db.proofs.Storing.{missing}
 use Rattle.ts_db.proofs.Freed.{live-after}
 use Rattle.ts_db.proofs.OldRules.{to-missing, to-none, to-one, both-ended}
@@ -10,7 +10,7 @@ use Rattle.ts_db.proofs.store.Store.delete_rule.Goals as goal
 pub returns-in_default-clause-ended : goal.returns-in_default-clause-ended
 returns-in_default-clause-ended c =
     let s = c.args.self.now in (
-      ap (kept_delete_rule_at (stock_of s).keys c.args.source.now c.args.dest.now) (missing s.limits s.nodes s.keys.entries c.requires.store c.args.source.now (sym (c.in_default.ensures ∙ c.get.ensures.value))),
+      ap (stored_delete_rule_at (db_view_of s).keys c.args.source.now c.args.dest.now) (missing s.limits s.nodes s.keys.entries c.requires.store c.args.source.now (sym (c.in_default.ensures ∙ c.get.ensures.value))),
       refl,
     )
 

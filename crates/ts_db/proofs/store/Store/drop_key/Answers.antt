@@ -1,7 +1,7 @@
 use Rattle.std.proofs.Common.{sym, ◌∙◌, ap}
 use Rattle.std.specs.Prelude.{is_some, if◌then◌else◌}
-use Rattle.ts_spec.specs.Keeping.{keep_dropped}
-use Rattle.ts_db.specs.Store.{stock_of}
+use Rattle.ts_spec.specs.StoredKeys.{keys_dropped}
+use Rattle.ts_db.specs.Store.{db_view_of}
 use Rattle.ts_db.proofs.Ending.{still-numbered}
 use Rattle.ts_db.proofs.Removal.{free-of, drops-nothing}
 use Rattle.ts_db.proofs.Storing.{found-some}
@@ -31,7 +31,7 @@ pub remove_key-requires-clause-free : goal.remove_key-requires-clause-free
 remove_key-requires-clause-free c =
     let is = sym (c.in-Some.ensures ∙ c.get.ensures.value) in
     let n = c.requires.store.stored c.args.key.now c.in-Some.id is in
-    free-of (stock_of c.args.self.now).keys (stock_of c.end_rules.new.self).keys c.args.key.now (c.end_rules.ensures.alone c.args.key.now n.0 (record { number = is; node = n.1 })).keys
+    free-of (db_view_of c.args.self.now).keys (db_view_of c.end_rules.new.self).keys c.args.key.now (c.end_rules.ensures.alone c.args.key.now n.0 (record { number = is; node = n.1 })).keys
 
 pub returns-clause-there : goal.returns-clause-there
 returns-clause-there c =
@@ -43,5 +43,5 @@ returns-clause-keys c =
     let n = c.requires.store.stored c.args.key.now c.in-Some.id is in
     c.remove_key.ensures.keys
     ∙ (c.end_rules.ensures.alone c.args.key.now n.0 (record { number = is; node = n.1 })).keys
-    ∙ ap (λ b. if b then keep_dropped c.args.key.now (stock_of c.args.self.now).keys else (stock_of c.args.self.now).keys)
+    ∙ ap (λ b. if b then keys_dropped c.args.key.now (db_view_of c.args.self.now).keys else (db_view_of c.args.self.now).keys)
     (ap is_some (c.in-Some.ensures ∙ c.get.ensures.value) ∙ sym (found-some c.args.self.now.limits c.args.self.now.nodes c.args.self.now.keys.entries c.requires.store c.args.key.now))

@@ -1,13 +1,13 @@
 use Rattle.std.proofs.Common.{◌≡◌, ◌<◌, length, refl, sym, ◌∙◌, ap, subst}
 use Rattle.std.specs.Prelude.{None}
 use Rattle.ts_spec.specs.Keyed.{with_key}
-use Rattle.ts_spec.specs.Kept.{Kept}
+use Rattle.ts_spec.specs.StoredSeries.{StoredSeries}
 use Rattle.ts_sample.specs.declared.sample.Id.{Id}
 use Rattle.ts_db.specs.declared.node.Node.{Node}
-use Rattle.ts_db.specs.Store.{Nodes, Numbers, collected, ids_of, told_of, node_reach, node_pieces, node_sizes, HaveGrids, IsStore, number_of}
+use Rattle.ts_db.specs.Store.{Nodes, Numbers, stored_by_key, ids_of, of_each_node, node_reach, node_pieces, node_sizes, HaveGrids, IsStore, id_for_key}
 use Rattle.ts_db.proofs.Storing.{store-slots, store-added, others-added, number-none}
-use Rattle.ts_db.proofs.Collecting.{collected-added, bare-kept}
-use Rattle.ts_db.proofs.Reaches.{stock-slots}
+use Rattle.ts_db.proofs.Collecting.{stored_by_key-added, bare-kept}
+use Rattle.ts_db.proofs.Reaches.{db_view-slots}
 use Rattle.ts_db.proofs.store.Store.insert.Goals as goal
 
 pub insert-requires : goal.insert-requires
@@ -21,14 +21,14 @@ returns-in-Err-insert-clause-store c =
 pub returns-in-Err-insert-clause-unchanged : goal.returns-in-Err-insert-clause-unchanged
 returns-in-Err-insert-clause-unchanged c =
     let nodes : Nodes = c.insert.new.self in
-    ap (λ (es : Numbers). record { limits = c.args.self.now.limits; keys = collected nodes es; ids = ids_of es; reaches = told_of node_reach nodes es; pieces = told_of node_pieces nodes es; sizes = told_of node_sizes nodes es }) c.in-Err-insert.ensures.entries
-    ∙ stock-slots c.args.self.now nodes c.in-Err-insert.ensures.unchanged
+    ap (λ (es : Numbers). record { limits = c.args.self.now.limits; keys = stored_by_key nodes es; ids = ids_of es; reaches = of_each_node node_reach nodes es; pieces = of_each_node node_pieces nodes es; sizes = of_each_node node_sizes nodes es }) c.in-Err-insert.ensures.entries
+    ∙ db_view-slots c.args.self.now nodes c.in-Err-insert.ensures.unchanged
 
 pub returns-in-Ok-insert-clause-store : goal.returns-in-Ok-insert-clause-store
 returns-in-Ok-insert-clause-store c =
     let s = c.args.self.now in
     let node : Node = record { key = c.in-Ok.name; series = c.args.series; labels = c.args.labels; rules = c.new.result; source = None } in
-    let none : number_of c.args.key s.keys.entries ≡ None = number-none s.limits s.nodes s.keys.entries c.requires.store c.args.key c.requires.absent in
+    let none : id_for_key c.args.key s.keys.entries ≡ None = number-none s.limits s.nodes s.keys.entries c.requires.store c.args.key c.requires.absent in
     let added = c.in-Ok-insert.ensures.added in
     let room : length s.keys.entries < s.limits.keys = subst (λ n. n < s.limits.keys) c.requires.store.counted c.requires.room in
     store-added s.limits s.nodes s.keys.entries c.requires.store c.insert.new.self c.insert.new.keys.entries c.args.key c.in-Ok-insert.field-0 node none added.vacant added.updates
@@ -41,6 +41,6 @@ returns-in-Ok-insert-clause-added c =
     let id : Id = c.in-Ok-insert.field-0 in
     let node : Node = record { key = c.in-Ok.name; series = c.args.series; labels = c.args.labels; rules = c.new.result; source = None } in
     let added = c.in-Ok-insert.ensures.added in
-    collected-added s.nodes c.insert.new.self s.keys.entries c.insert.new.keys.entries c.args.key id node c.requires.store.stored added.vacant added.updates
+    stored_by_key-added s.nodes c.insert.new.self s.keys.entries c.insert.new.keys.entries c.args.key id node c.requires.store.stored added.vacant added.updates
     (others-added s.limits s.nodes s.keys.entries c.requires.store c.insert.new.self id node added.vacant added.updates) c.in-Ok-insert.ensures.numbered
-    ∙ ap (λ (d : Kept). with_key c.args.key d (collected s.nodes s.keys.entries)) (bare-kept c.insert.new.self node c.new.ensures.items refl)
+    ∙ ap (λ (d : StoredSeries). with_key c.args.key d (stored_by_key s.nodes s.keys.entries)) (bare-kept c.insert.new.self node c.new.ensures.items refl)

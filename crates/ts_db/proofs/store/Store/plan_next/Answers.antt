@@ -2,7 +2,7 @@ use Rattle.std.proofs.Common.{sym, subst}
 use Rattle.std.specs.Prelude.{Option}
 use Rattle.ts_sample.specs.Steps.{Takes}
 use Rattle.ts_db.specs.Planning.{share_at}
-use Rattle.ts_db.proofs.Planned.{planned-changed, planned-fed, planned-fits, planned-refused}
+use Rattle.ts_db.proofs.Planned.{planned-changed, planned-update_dest, planned-fits, planned-refused}
 use Rattle.ts_db.specs.declared.node.Node.{Node}
 use Rattle.ts_db.proofs.store.Store.plan_next.Goals as goal
 
@@ -10,9 +10,9 @@ pub returns-clause-changed : goal.returns-clause-changed
 returns-clause-changed g c =
     planned-changed c.args.self.now.limits.samples c.args.self.now.nodes c.args.work c.args.source.now c.args.rule.now c.node-dest.result.now c.node-dest.ensures c.made_plan.result c.made_plan.ensures.planned
 
-pub returns-clause-fed : goal.returns-clause-fed
-returns-clause-fed g c =
-    planned-fed c.args.self.now.limits.samples c.args.self.now.nodes c.args.work c.args.source.now c.args.rule.now c.node-dest.result.now c.node-dest.ensures c.made_plan.result c.made_plan.ensures.planned
+pub returns-clause-update_dest : goal.returns-clause-update_dest
+returns-clause-update_dest g c =
+    planned-update_dest c.args.self.now.limits.samples c.args.self.now.nodes c.args.work c.args.source.now c.args.rule.now c.node-dest.result.now c.node-dest.ensures c.made_plan.result c.made_plan.ensures.planned
 
 pub returns-clause-fits : goal.returns-clause-fits
 returns-clause-fits g c =

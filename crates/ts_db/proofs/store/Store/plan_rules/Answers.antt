@@ -5,8 +5,8 @@ use Rattle.ts_sample.specs.declared.sample.Id.{Id}
 use Rattle.ts_rules.specs.declared.rule.Rule.{Rule}
 use Rattle.ts_db.specs.declared.planning.DestinationPlan.{DestinationPlan}
 use Rattle.ts_db.specs.Store.{AreLive}
-use Rattle.ts_db.specs.Planning.{changed_by, gone_by, rows_by_work, AllTake, AreChanged, AreFedBy, first_full, IsRuleUnplanned, IsUnplanned, shares_of, AreEasyOf, HasRoomForRules}
-use Rattle.ts_db.proofs.Plans.{full-past, fed-more, changed-more}
+use Rattle.ts_db.specs.Planning.{changed_by, gone_by, rows_by_change, AllHaveCountCapacity, AreChanged, AreDestinationsUpdatedBy, first_full, IsRulePlanFault, IsPlanFault, shares_of, AreEasyOf, HasCapacityForRules}
+use Rattle.ts_db.proofs.Plans.{full-past, update_dest-more, changed-more}
 use Rattle.ts_db.proofs.store.Store.plan_rules.Goals as goal
 
 pub plan_next-requires-clause-live : goal.plan_next-requires-clause-live
@@ -31,16 +31,16 @@ loop-rule-preserved g c =
       changed = subst (λ (rs : List Rule). AreChanged (changed_by work source) rs c.push.new.self.rules.items) (sym so_far)
           (subst (λ (xs : List Rule). AreChanged (changed_by work source) (take i all ++ r ∷ []) xs) (sym c.push.ensures.rules)
           (changed-more (changed_by work source) (take i all) c.loop-rule.planned.rules.items r _ c.loop-rule.invariant.changed c.in-Ok-plan_next.ensures.changed));
-      fed = subst (λ (rs : List Rule). AreFedBy limit nodes (rows_by_work work source) (gone_by work source) rs c.push.new.self.plans.items) (sym so_far)
-          (subst (λ (xs : List DestinationPlan). AreFedBy limit nodes (rows_by_work work source) (gone_by work source) (take i all ++ r ∷ []) xs) (sym c.push.ensures.plans)
-          (fed-more limit nodes (rows_by_work work source) (gone_by work source) (take i all) c.loop-rule.planned.plans.items r _ c.loop-rule.invariant.fed c.in-Ok-plan_next.ensures.fed));
-      fit = sym (ap (first_full limit nodes (rows_by_work work source) (gone_by work source)) left
-          ∙ full-past limit nodes (rows_by_work work source) (gone_by work source) r (drop (i + 1) all) c.in-Ok-plan_next.ensures.fits) ∙ c.loop-rule.invariant.fit;
+      update_dest = subst (λ (rs : List Rule). AreDestinationsUpdatedBy limit nodes (rows_by_change work source) (gone_by work source) rs c.push.new.self.plans.items) (sym so_far)
+          (subst (λ (xs : List DestinationPlan). AreDestinationsUpdatedBy limit nodes (rows_by_change work source) (gone_by work source) (take i all ++ r ∷ []) xs) (sym c.push.ensures.plans)
+          (update_dest-more limit nodes (rows_by_change work source) (gone_by work source) (take i all) c.loop-rule.planned.plans.items r _ c.loop-rule.invariant.update_dest c.in-Ok-plan_next.ensures.update_dest));
+      fit = sym (ap (first_full limit nodes (rows_by_change work source) (gone_by work source)) left
+          ∙ full-past limit nodes (rows_by_change work source) (gone_by work source) r (drop (i + 1) all) c.in-Ok-plan_next.ensures.fits) ∙ c.loop-rule.invariant.fit;
       live = (subst (AreLive nodes) left c.loop-rule.invariant.live).1;
       shared = c.plan_next.ensures.shared;
-      takes = (subst (AllTake work source) left c.loop-rule.invariant.takes).1;
+      takes = (subst (AllHaveCountCapacity work source) left c.loop-rule.invariant.takes).1;
       many = c.push.ensures.one ∙ ap (λ (n : ℕ). n + 1) c.loop-rule.invariant.many;
-      room = c.push.ensures.room (length (drop (i + 1) all)) (subst (λ (rs : List Rule). HasRoomForRules (length rs) c.loop-rule.planned) left c.loop-rule.invariant.room);
+      room = c.push.ensures.room (length (drop (i + 1) all)) (subst (λ (rs : List Rule). HasCapacityForRules (length rs) c.loop-rule.planned) left c.loop-rule.invariant.room);
       counted = omega (arith, c.plan_next.ensures.steps.counted, c.loop-rule.invariant.counted);
       steps = omega (arith, c.plan_next.ensures.steps.bounded, c.loop-rule.invariant.steps, ap (shares_of nodes work source) left);
       easy = λ all_easy. (
@@ -58,24 +58,24 @@ returns-in-Err-Memory-clause-refused g c =
     let r : Rule = c.rule-item.result in
     let left : drop i all ≡ r ∷ drop (i + 1) all = drop_more all i r c.loop-rule-test.true ∙ ap (λ (x : Rule). x ∷ drop (i + 1) all) (sym c.rule-item.is) in
     let so_far : c.len.result ≡ i = omega (arith, c.len.ensures, c.loop-rule.invariant.many) in
-    let first : List Rule → Option Id = first_full c.args.self.now.limits.samples c.args.self.now.nodes (rows_by_work work source) (gone_by work source) in
+    let first : List Rule → Option Id = first_full c.args.self.now.limits.samples c.args.self.now.nodes (rows_by_change work source) (gone_by work source) in
     let none : first (r ∷ []) ≡ None =
-    subst (IsRuleUnplanned r (first (r ∷ []))) c.in-Err-Memory.field-0-is c.in-Err-Memory.ensures.refused in
-    subst (λ (full : Option Id). IsUnplanned full c.unplanned-in-Err-Memory.result)
+    subst (IsRulePlanFault r (first (r ∷ []))) c.in-Err-Memory.field-0-is c.in-Err-Memory.ensures.refused in
+    subst (λ (full : Option Id). IsPlanFault full c.plan_fault-in-Err-Memory.result)
     (sym (sym c.loop-rule.invariant.fit ∙ ap first left
-    ∙ full-past c.args.self.now.limits.samples c.args.self.now.nodes (rows_by_work work source) (gone_by work source) r (drop (i + 1) all) none
+    ∙ full-past c.args.self.now.limits.samples c.args.self.now.nodes (rows_by_change work source) (gone_by work source) r (drop (i + 1) all) none
     ∙ ap (λ k. first (drop (k + 1) all)) (sym so_far)
     ∙ ap first (sym (take_all (length all - (c.len.result + 1)) (drop (c.len.result + 1) all) (omega (arith, length-drop (c.len.result + 1) all))))))
-    c.unplanned-in-Err-Memory.ensures.refused
+    c.plan_fault-in-Err-Memory.ensures.refused
 
 pub returns-in-Err-clause-refused : goal.returns-in-Err-clause-refused
-returns-in-Err-clause-refused g c = c.unplanned.ensures.refused
+returns-in-Err-clause-refused g c = c.plan_fault.ensures.refused
 
 pub returns-in-Err-clause-steps : goal.returns-in-Err-clause-steps
-returns-in-Err-clause-steps g c = c.unplanned.ensures.steps
+returns-in-Err-clause-steps g c = c.plan_fault.ensures.steps
 
 pub returns-in-Err-clause-easy : goal.returns-in-Err-clause-easy
-returns-in-Err-clause-easy g c = c.unplanned.ensures.easy
+returns-in-Err-clause-easy g c = c.plan_fault.ensures.easy
 
 pub returns-in-Err-Full-clause-steps : goal.returns-in-Err-Full-clause-steps
 returns-in-Err-Full-clause-steps g c =
@@ -108,8 +108,8 @@ returns-in-Err-Memory-clause-steps g c =
     let rest : take (length all - (c.len.result + 1)) (drop (c.len.result + 1) all) ≡ drop (i + 1) all =
     take_all (length all - (c.len.result + 1)) (drop (c.len.result + 1) all) (omega (arith, length-drop (c.len.result + 1) all)) ∙ ap (λ (k : ℕ). drop (k + 1) all) so_far in
     record {
-      counted = omega (arith, c.plan_next.ensures.steps.counted, c.unplanned-in-Err-Memory.ensures.steps.counted, c.loop-rule.invariant.counted);
-      bounded = omega (arith, c.plan_next.ensures.steps.bounded, c.unplanned-in-Err-Memory.ensures.steps.bounded, c.loop-rule.invariant.steps, ap shares left, ap shares rest);
+      counted = omega (arith, c.plan_next.ensures.steps.counted, c.plan_fault-in-Err-Memory.ensures.steps.counted, c.loop-rule.invariant.counted);
+      bounded = omega (arith, c.plan_next.ensures.steps.bounded, c.plan_fault-in-Err-Memory.ensures.steps.bounded, c.loop-rule.invariant.steps, ap shares left, ap shares rest);
     }
 
 pub returns-in-Err-Memory-clause-easy : goal.returns-in-Err-Memory-clause-easy
@@ -124,7 +124,7 @@ returns-in-Err-Memory-clause-easy g c =
     take_all (length all - (c.len.result + 1)) (drop (c.len.result + 1) all) (omega (arith, length-drop (c.len.result + 1) all)) ∙ ap (λ (k : ℕ). drop (k + 1) all) so_far in
     λ all_easy.
     let easy : AreEasy (r ∷ drop (i + 1) all) = subst AreEasy left (c.loop-rule.invariant.easy all_easy).1 in
-    c.unplanned-in-Err-Memory.ensures.easy (subst AreEasy (sym rest) easy.1) ∙ c.plan_next.ensures.easy easy.0 ∙ (c.loop-rule.invariant.easy all_easy).0
+    c.plan_fault-in-Err-Memory.ensures.easy (subst AreEasy (sym rest) easy.1) ∙ c.plan_next.ensures.easy easy.0 ∙ (c.loop-rule.invariant.easy all_easy).0
 
 pub returns-clause-steps : goal.returns-clause-steps
 returns-clause-steps g c = record {

@@ -1,6 +1,6 @@
 use Rattle.std.proofs.Common.{[], sym, ◌∙◌, ap}
 use Rattle.ts_db.specs.declared.node.Node.{Node}
-use Rattle.ts_db.specs.Linking.{kept_ruleless}
+use Rattle.ts_db.specs.Linking.{stored_ruleless}
 use Rattle.ts_db.proofs.Applying.{elsewhere-turned}
 use Rattle.ts_db.proofs.NewLinks.{store-turned, kept-turned, kept-rules, live-rules, node-rules}
 use Rattle.ts_spec.proofs.Tidy.{some-same}
@@ -23,7 +23,7 @@ pub returns-clause-taken : goal.returns-clause-taken
 returns-clause-taken c =
     let s = c.args.self.now in
     let t = c.take_rules.ensures in
-    kept-turned s c.requires.store c.args.id c.take_rules.new.self t (ap (λ (x : Node). x.key) t.so.1.rest) kept_ruleless
+    kept-turned s c.requires.store c.args.id c.take_rules.new.self t (ap (λ (x : Node). x.key) t.so.1.rest) stored_ruleless
     (live-rules s.nodes [] t.was t.now t.so.1 tt (c.requires.store.live c.args.id.0 t.was t.there).source) (kept-rules s.nodes [] t.was t.now t.so.1)
 
 pub returns-clause-elsewhere : goal.returns-clause-elsewhere

@@ -16,7 +16,7 @@ pub returns-in-Some-clause-current : goal.returns-in-Some-clause-current
 returns-in-Some-clause-current g c = λ is. c.in-Some.ensures.current (ap Some is)
 
 pub returns-in-Some-clause-cause : goal.returns-in-Some-clause-cause
-returns-in-Some-clause-cause g c = cause_after g.T.Turns.kind (Some c.in-Some.go) _ _ _ _ _ _ c.loop-go.invariant.fine c.in-Some.ensures.cause
+returns-in-Some-clause-cause g c = cause_after g.T.Handler.kind (Some c.in-Some.go) _ _ _ _ _ _ c.loop-go.invariant.fine c.in-Some.ensures.cause
 
 pub loop-go-preserved : goal.loop-go-preserved
 loop-go-preserved g c = record {

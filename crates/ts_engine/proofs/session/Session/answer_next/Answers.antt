@@ -22,5 +22,5 @@ pub returns-in-Memory-clause-goes : goal.returns-in-Memory-clause-goes
 returns-in-Memory-clause-goes g c = carries_none _ _ (λ from stands. not_fed _ _ _ _ refl refl)
 
 pub returns-in-Broken-clause-goes : goal.returns-in-Broken-clause-goes
-returns-in-Broken-clause-goes g c = carries_none _ _ (λ from stands. refused_next c.refuse.result c.in-Broken.fault _ _ _ _
-    (λ more. ap (λ (r : Reading). stream_of r more) c.refuse.ensures.reader ∙ c.in-Broken.ensures.same more) c.in-Broken.ensures.broken c.refuse.ensures.executed refl c.refuse.ensures.refused)
+returns-in-Broken-clause-goes g c = carries_none _ _ (λ from stands. refused_next c.reply_fault.result c.in-Broken.fault _ _ _ _
+    (λ more. ap (λ (r : Reading). stream_of r more) c.reply_fault.ensures.reader ∙ c.in-Broken.ensures.same more) c.in-Broken.ensures.broken c.reply_fault.ensures.executed refl c.reply_fault.ensures.refused)

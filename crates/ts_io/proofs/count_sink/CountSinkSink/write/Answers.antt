@@ -1,6 +1,6 @@
 use Rattle.std.proofs.Common.{◌≡◌, ◌+◌, ◌-◌, ◌^◌, min, ℕ, List, length, take, subst, sym, arith}
 use Rattle.std.proofs.lemmas.List.{take_all}
-use Rattle.ts_io.specs.Counts.{Counts, counts_of, marks_after}
+use Rattle.ts_io.specs.Counts.{Counts, counts_of, error_marks_after}
 use Rattle.ts_io.specs.Sinks.{Grows}
 use Rattle.ts_io.proofs.Counting.{counts_grow}
 use Rattle.ts_io.proofs.count_sink.CountSinkSink.write.Goals as goal
@@ -14,7 +14,7 @@ returns-clause-bytes c =
       last = c.last_of-self-inside.result;
     } in
     let bytes : List ℕ = c.args.bytes.now in
-    let marked : new.errors ≡ min (old.errors + marks_after old.last bytes) (2 ^ 64 - 1) = omega (arith, c.saturating_add-self-inside.ensures, c.count_marks.ensures) in
+    let marked : new.errors ≡ min (old.errors + error_marks_after old.last bytes) (2 ^ 64 - 1) = omega (arith, c.saturating_add-self-inside.ensures, c.count_error_marks.ensures) in
     let grown : Grows (λ w. old ≡ counts_of w) (λ w. new ≡ counts_of w) bytes =
     counts_grow old new bytes c.saturating_add-self-inside-2.ensures marked c.last_of-self-inside.ensures in
     subst (λ (o : Counts). Grows (λ w. o ≡ counts_of w) (λ w. new ≡ counts_of w) (take (length bytes) bytes)) c.self.view_is

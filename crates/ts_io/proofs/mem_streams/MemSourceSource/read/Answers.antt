@@ -8,11 +8,11 @@ returns-clause-bytes c =
     let bytes = c.self.inside.bytes.items in
     let place = c.self.inside.place in
     let piece = c.self.inside.piece in
-    let n = c.copy_front-count.result in
+    let n = c.copy_prefix-count.result in
     let room = length c.args.buf.now in
     let all = c.deref.ensures.value in
-    let copied = c.copy_front-count.ensures.copied ∙ ap (λ (l : List ℕ). take n (take (length l - place) (drop place l))) all in
-    let count = c.copy_front-count.ensures.count ∙ ap (λ (l : List ℕ). min piece (min room (length (take (length l - place) (drop place l))))) all in (
-      ap (λ (s : MemSourceState). s.left) (sym c.self.view_is) ∙ read_front bytes c.copy_front-count.new.to place n copied,
+    let copied = c.copy_prefix-count.ensures.copied ∙ ap (λ (l : List ℕ). take n (take (length l - place) (drop place l))) all in
+    let count = c.copy_prefix-count.ensures.count ∙ ap (λ (l : List ℕ). min piece (min room (length (take (length l - place) (drop place l))))) all in (
+      ap (λ (s : MemSourceState). s.left) (sym c.self.view_is) ∙ read_front bytes c.copy_prefix-count.new.to place n copied,
       λ none asked. read_none bytes place piece room n c.self.invariant.1 count none (omega arith),
     )

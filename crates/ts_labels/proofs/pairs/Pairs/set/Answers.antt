@@ -10,8 +10,8 @@ invariant_of-self-in_ok-insert-in-Many-2 c = AreDistinct-labels_in c.insert.new.
 pub invariant_of-self-in_ok-insert-in-Many-3 : goal.invariant_of-self-in_ok-insert-in-Many-3
 invariant_of-self-in_ok-insert-in-Many-3 c = AreDistinct-labels_in c.insert.new.self.entries c.insert.ensures.unique
 
-pub invariant_of-self-then-len-lt-FEW : goal.invariant_of-self-then-len-lt-FEW
-invariant_of-self-then-len-lt-FEW c = c.set_few.ensures.distinct
+pub invariant_of-self-then-len-lt-MAX_LINEAR : goal.invariant_of-self-then-len-lt-MAX_LINEAR
+invariant_of-self-then-len-lt-MAX_LINEAR c = c.set_few.ensures.distinct
 
 pub invariant_of-self-in_ok-insert-in-Few : goal.invariant_of-self-in_ok-insert-in-Few
 invariant_of-self-in_ok-insert-in-Few c = AreDistinct-labels_in c.insert-in-Few.new.self.entries c.insert-in-Few.ensures.unique

@@ -1,5 +1,5 @@
 use Rattle.std.proofs.Common.{◌≡◌, sym, subst}
-use Rattle.ts_mux.specs.Links.{ahead_of}
+use Rattle.ts_mux.specs.Links.{pending_items_of}
 use Rattle.ts_mux.specs.Order.{without}
 use Rattle.ts_mux.proofs.Closing.{ahead_closed}
 use Rattle.ts_mux.proofs.Apart.{other_key}
@@ -8,7 +8,7 @@ use Rattle.ts_mux.proofs.mux.Mux.close.Goals as goal
 pub returns-clause-others : goal.returns-clause-others
 returns-clause-others c = λ frames.
     let m = c.args.self.now in
-    subst (λ hand. ahead_of m.limits c.mark.new.closed c.remove.new.self hand frames ≡ without c.args.link (ahead_of m.limits m.closed m.readers m.hand frames))
-    (sym c.let_go.ensures)
-    (ahead_closed m.limits m.closed c.mark.new.closed m.readers c.remove.new.self m.hand c.args.link c.mark.ensures
+    subst (λ current_connection. pending_items_of m.limits c.mark_closed.new.closed c.remove.new.self current_connection frames ≡ without c.args.link (pending_items_of m.limits m.closed m.readers m.current_connection frames))
+    (sym c.drop_current.ensures)
+    (ahead_closed m.limits m.closed c.mark_closed.new.closed m.readers c.remove.new.self m.current_connection c.args.link c.mark_closed.ensures
     (λ at apart. c.remove.ensures.updates.2 at (other_key c.args.link at apart)) frames)

@@ -7,4 +7,4 @@ use Rattle.ts_range.proofs.cutter.Cutter.close.Goals as goal
 
 pub returns-in-Some-clause-closed : goal.returns-in-Some-clause-closed
 returns-in-Some-clause-closed g c = λ ps asked is.
-    closed (g.T.Take.has c.args.taker.now) c.args.self.now.buckets c.in-Some.bucket ps (subst (λ (o : Option Bucket). IsCut (g.T.Take.has c.args.taker.now) c.args.self.now.buckets o ps) c.in-Some.is is) (g.T.Take.has c.tell.new.taker) c.tell.ensures.row asked
+    closed (g.T.RowSink.has c.args.row_sink.now) c.args.self.now.buckets c.in-Some.bucket ps (subst (λ (o : Option Bucket). IsCut (g.T.RowSink.has c.args.row_sink.now) c.args.self.now.buckets o ps) c.in-Some.is is) (g.T.RowSink.has c.emit_row.new.row_sink) c.emit_row.ensures.row asked

@@ -8,12 +8,12 @@ use Rattle.ts_range.proofs.cutter.Cutter.push.Goals as goal
 
 pub returns-then-sample-bucket-clause-cut : goal.returns-then-sample-bucket-clause-cut
 returns-then-sample-bucket-clause-cut g c = λ ps rises is.
-    same (g.T.Take.has c.args.taker.now) c.args.self.now.buckets c.in-Some.bucket ps (subst (λ (o : Option Bucket). IsCut (g.T.Take.has c.args.taker.now) c.args.self.now.buckets o ps) c.in-Some.is is) c.args.sample.now rises
+    same (g.T.RowSink.has c.args.row_sink.now) c.args.self.now.buckets c.in-Some.bucket ps (subst (λ (o : Option Bucket). IsCut (g.T.RowSink.has c.args.row_sink.now) c.args.self.now.buckets o ps) c.in-Some.is is) c.args.sample.now rises
     (omega (arith, ap (λ (p : Point). p.time) c.sample.view_is, c.if-sample-bucket.true)) _ refl refl c.push.ensures.tells
 
 pub returns-else-sample-bucket-clause-cut : goal.returns-else-sample-bucket-clause-cut
 returns-else-sample-bucket-clause-cut g c = λ ps rises is.
-    next (g.T.Take.has c.args.taker.now) c.args.self.now.buckets c.in-Some.bucket ps (subst (λ (o : Option Bucket). IsCut (g.T.Take.has c.args.taker.now) c.args.self.now.buckets o ps) c.in-Some.is is) c.args.sample.now rises
+    next (g.T.RowSink.has c.args.row_sink.now) c.args.self.now.buckets c.in-Some.bucket ps (subst (λ (o : Option Bucket). IsCut (g.T.RowSink.has c.args.row_sink.now) c.args.self.now.buckets o ps) c.in-Some.is is) c.args.sample.now rises
     (omega (arith, ap (λ (p : Point). p.time) c.sample.view_is, c.if-sample-bucket.false)) (omega (arith, ap (λ (p : Point). p.time) c.sample.view_is, c.sample.invariant))
-    c.turn.new.self c.turn.ensures.span c.turn.ensures.start c.turn.ensures.tells
-    (g.T.Take.has c.turn.new.taker) c.turn.ensures.row
+    c.emit_and_advance.new.self c.emit_and_advance.ensures.span c.emit_and_advance.ensures.start c.emit_and_advance.ensures.tells
+    (g.T.RowSink.has c.emit_and_advance.new.row_sink) c.emit_and_advance.ensures.row

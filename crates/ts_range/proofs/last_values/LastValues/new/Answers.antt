@@ -8,6 +8,6 @@ invariant_of-result g c =
     let v = values_of c.args.filters.now c.args.filling c.new.result.points in
     record {
       within = omega arith;
-      known = λ lo hi line b is. none-seen (g.T.Take.has c.args.taker) v c.new.ensures c.requires b;
+      known = λ lo hi line b is. none-seen (g.T.RowSink.has c.args.row_sink) v c.new.ensures c.requires b;
       begun = λ lo hi t line low upto b is. first-by lo hi v line t low b is;
     }

@@ -1,7 +1,7 @@
 use Rattle.std.proofs.Common.{ℕ, min, length, sym, ◌∙◌, ap}
 use Rattle.std.specs.Prelude.{Option}
 use Rattle.ts_range.specs.Starts.{starts_of}
-use Rattle.ts_range.specs.Walk.{most_of}
+use Rattle.ts_range.specs.AskedSamples.{most_of}
 use Rattle.ts_range.proofs.Order.{length-starts}
 use Rattle.ts_range.proofs.starts.Starts.wanted.Goals as goal
 

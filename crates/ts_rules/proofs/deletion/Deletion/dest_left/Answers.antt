@@ -6,16 +6,16 @@ use Rattle.ts_spec.proofs.Buckets.{start-le}
 use Rattle.ts_series.specs.History.{list_of}
 use Rattle.ts_series.specs.Plan.{AreWithin, AreMade}
 use Rattle.ts_series.proofs.TimeFor.{between-longer}
-use Rattle.ts_rules.specs.Plans.{IsMending}
+use Rattle.ts_rules.specs.Plans.{IsUpdate}
 use Rattle.ts_rules.specs.Deletions.{span_left}
-use Rattle.ts_rules.proofs.DestLeft.{dest-stays, dest-mended, left-ascending, left-within, left-made}
+use Rattle.ts_rules.proofs.DestLeft.{dest-stays, dest-updated_list, left-ascending, left-within, left-made}
 use Rattle.ts_rules.proofs.Rooms.{touched-closed}
 use Rattle.ts_rules.proofs.deletion.Deletion.dest_left.Goals as goal
 use Rattle.ts_rules.proofs.deletion.Deletion.dest_left.Goals.{After-start_of-last, After-deref}
-use Rattle.ts_rules.specs.Room.{count_touched}
+use Rattle.ts_rules.specs.DeletionBuffers.{count_touched}
 
-pub returns-then-not-is_closed-clause-mended : goal.returns-then-not-is_closed-clause-mended
-returns-then-not-is_closed-clause-mended g c =
+pub returns-then-not-is_closed-clause-updated_list : goal.returns-then-not-is_closed-clause-updated_list
+returns-then-not-is_closed-clause-updated_list g c =
     let d = c.args.self.now in
     dest-stays d.rule.now d.source.now d.from d.to c.args.limit c.args.dest.now c.known-3.ensures.kept c.requires.fits
     (ap (is_past d.rule.now.current) (sym c.start_of-first.ensures) ∙ sym c.is_closed.ensures ∙ c.if-not-is_closed.true)
@@ -48,40 +48,40 @@ span g c =
     let rows = c.deref.ensures.value ∙ c.span_left-rows.ensures.span ∙ (λ i. span_left d.rule.now d.source.now d.from d.to c.args.dest.now.born (c.start_of-first.ensures i) (c.start_of-last.ensures i) (list_of c.args.dest.now)) in
     λ i. (c.start_of-first.ensures i, c.start_of-last.ensures i, rows i)
 
-pub mended-requires-clause-ascending : goal.mended-requires-clause-ascending
-mended-requires-clause-ascending g c =
+pub updated_list-requires-clause-ascending : goal.updated_list-requires-clause-ascending
+updated_list-requires-clause-ascending g c =
     let d = c.args.self.now in
-    subst (λ (s : ℕ × ℕ × List Point). IsAscending s.2) (sym (span g (goal.at.mended-requires-clause-ascending g c).After-deref))
+    subst (λ (s : ℕ × ℕ × List Point). IsAscending s.2) (sym (span g (goal.at.updated_list-requires-clause-ascending g c).After-deref))
     (left-ascending d.rule.now d.source.now c.args.dest.now d.from d.to d.in_order c.known-2.ensures.kept.ascending c.known-3.ensures.kept)
 
-pub mended-requires-clause-within : goal.mended-requires-clause-within
-mended-requires-clause-within g c =
+pub updated_list-requires-clause-within : goal.updated_list-requires-clause-within
+updated_list-requires-clause-within g c =
     let d = c.args.self.now in
-    subst (λ (s : ℕ × ℕ × List Point). AreWithin s.0 s.1 s.2) (sym (span g (goal.at.mended-requires-clause-within g c).After-deref))
+    subst (λ (s : ℕ × ℕ × List Point). AreWithin s.0 s.1 s.2) (sym (span g (goal.at.updated_list-requires-clause-within g c).After-deref))
     (left-within d.rule.now d.source.now c.args.dest.now d.from d.to d.in_order c.known-2.ensures.kept.ascending c.known-3.ensures.kept)
 
-pub mended-requires-clause-made : goal.mended-requires-clause-made
-mended-requires-clause-made g c =
+pub updated_list-requires-clause-made : goal.updated_list-requires-clause-made
+updated_list-requires-clause-made g c =
     let d = c.args.self.now in
-    subst (λ (s : ℕ × ℕ × List Point). AreMade c.args.dest.now.born s.2) (sym (span g (goal.at.mended-requires-clause-made g c).After-deref))
+    subst (λ (s : ℕ × ℕ × List Point). AreMade c.args.dest.now.born s.2) (sym (span g (goal.at.updated_list-requires-clause-made g c).After-deref))
     (left-made d.rule.now d.source.now c.args.dest.now d.from d.to d.in_order c.known-2.ensures.kept.ascending c.known-3.ensures.kept)
 
-pub returns-clause-mended : goal.returns-clause-mended
-returns-clause-mended g c =
+pub returns-clause-updated_list : goal.returns-clause-updated_list
+returns-clause-updated_list g c =
     let d = c.args.self.now in
-    dest-mended d.rule.now d.source.now c.args.dest.now d.from d.to d.in_order c.known-2.ensures.kept.ascending c.known-3.ensures.kept c.args.limit c.mended.result
-    (subst (λ (s : ℕ × ℕ × List Point). IsMending c.args.limit (is_within s.0 s.1) s.2 c.args.dest.now c.mended.result) (span g (goal.at.returns-clause-mended g c).After-deref) c.mended.ensures.mended)
+    dest-updated_list d.rule.now d.source.now c.args.dest.now d.from d.to d.in_order c.known-2.ensures.kept.ascending c.known-3.ensures.kept c.args.limit c.updated_list.result
+    (subst (λ (s : ℕ × ℕ × List Point). IsUpdate c.args.limit (is_within s.0 s.1) s.2 c.args.dest.now c.updated_list.result) (span g (goal.at.returns-clause-updated_list g c).After-deref) c.updated_list.ensures.updated_list)
 
 pub returns-clause-steps : goal.returns-clause-steps
 returns-clause-steps g c =
     let grid = c.args.self.now.rule.now.grid in
     let upto : c.start_of-last.result ≤ c.args.self.now.to = omega (arith, c.start_of-last.ensures, start-le grid c.args.self.now.to c.known.ensures.some) in
     record {
-      counted = omega (arith, c.span_left-rows.ensures.steps.counted, c.mended.ensures.steps.counted);
+      counted = omega (arith, c.span_left-rows.ensures.steps.counted, c.updated_list.ensures.steps.counted);
       bounded = omega (
         arith,
         c.span_left-rows.ensures.steps.bounded,
-        c.mended.ensures.steps.bounded,
+        c.updated_list.ensures.steps.bounded,
         ap (λ n. length (between n c.start_of-last.result (list_of c.args.dest.now))) c.start_of-first.ensures,
         between-longer (start grid c.args.self.now.from) c.start_of-last.result c.args.self.now.to (list_of c.args.dest.now) upto,
       );

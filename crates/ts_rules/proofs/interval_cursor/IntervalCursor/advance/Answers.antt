@@ -1,5 +1,5 @@
 use Rattle.std.proofs.Common.{drop, ◌∙◌, ap}
-use Rattle.ts_rules.proofs.Walks.{walk-next}
+use Rattle.ts_rules.proofs.IntervalReading.{walk-next}
 use Rattle.ts_rules.proofs.interval_cursor.IntervalCursor.advance.Goals as goal
 
 pub returns-clause-left : goal.returns-clause-left

@@ -2,7 +2,7 @@ use Rattle.std.proofs.Common.{nat_le, drop, sym, ap, ◌∙◌, subst}
 use Rattle.ts_spec.specs.Sample.{IsAscending, at_times}
 use Rattle.ts_spec.proofs.Samples.{ascending-times}
 use Rattle.ts_series.specs.History.{list_of}
-use Rattle.ts_rules.proofs.Walks.{walk-between, ascending-rest}
+use Rattle.ts_rules.proofs.IntervalReading.{walk-between, ascending-rest}
 use Rattle.ts_rules.proofs.interval_cursor.IntervalCursor.new.Goals as goal
 
 pub invariant_of-result : goal.invariant_of-result

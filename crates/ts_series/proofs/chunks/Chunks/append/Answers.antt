@@ -3,7 +3,7 @@ use Rattle.std.specs.Prelude.{slice_set, Some}
 use Rattle.std.specs.VecDeque.{deque_len}
 use Rattle.ts_spec.specs.Sample.{IsAscending, last_of}
 use Rattle.ts_sample.specs.Chunk.{IsPast, Fits, joined}
-use Rattle.ts_series.specs.Stored.{Stored, AreKept, HasRoomFor, with_last}
+use Rattle.ts_series.specs.Stored.{Stored, AreStoredChunks, LastChunkFits, with_last}
 use Rattle.ts_series.proofs.Changed.{few-kept}
 use Rattle.ts_series.proofs.Appended.{map-last, map-same, room-last, list-taken, kept-last}
 use Rattle.ts_series.proofs.chunks.Chunks.append.Goals as goal
@@ -11,10 +11,10 @@ use Rattle.ts_series.proofs.chunks.Chunks.append.Goals.{After-known}
 
 -- there is a last chunk, which has room
 last-has-room : (g : _) (c : After-known g) → (length c.self.inside.chunks.items ≡ suc (deque_len c.self.inside.chunks - 1))
-    × HasRoomFor g.C.Chunk.format (Some c.args.sample.now) (map g.C.Chunk.list c.self.inside.chunks.items) (map g.C.Chunk.most c.self.inside.chunks.items)
+    × LastChunkFits g.C.Chunk.format (Some c.args.sample.now) (map g.C.Chunk.list c.self.inside.chunks.items) (map g.C.Chunk.most c.self.inside.chunks.items)
 last-has-room g c = (
   omega (arith, c.self.inside.chunks.ok.0, c.in-Some.ensures.variant.0 refl),
-  subst (λ (h : Stored). HasRoomFor g.C.Chunk.format (Some c.args.sample.now) h.pieces h.limits) (sym c.self.view_is) c.requires.room,
+  subst (λ (h : Stored). LastChunkFits g.C.Chunk.format (Some c.args.sample.now) h.pieces h.limits) (sym c.self.view_is) c.requires.room,
 )
 
 -- it took the sample
@@ -32,7 +32,7 @@ took g c =
     ∙ ap (λ k. g.C.Chunk.list k ++ p ∷ []) c.in-Some.ensures.value
 
 -- all chunks are kept then
-kept-then : (g : _) (c : After-known g) → AreKept g.C.Chunk.format
+kept-then : (g : _) (c : After-known g) → AreStoredChunks g.C.Chunk.format
     (map g.C.Chunk.list (slice_set c.self.inside.chunks.items (deque_len c.self.inside.chunks - 1) c.try_append-fits.new.self))
     (map g.C.Chunk.most (slice_set c.self.inside.chunks.items (deque_len c.self.inside.chunks - 1) c.try_append-fits.new.self)) (c.self.inside.count + 1)
 kept-then g c =
@@ -48,7 +48,7 @@ try_append-fits-requires g c =
     let p = c.args.sample.now in
     let chunks = c.self.inside.chunks in
     let long : length chunks.items ≡ suc (deque_len chunks - 1) = omega (arith, chunks.ok.0, c.in-Some.ensures.variant.0 refl) in
-    let room = subst (λ (h : Stored). HasRoomFor g.C.Chunk.format (Some p) h.pieces h.limits) (sym c.self.view_is) c.requires.room in
+    let room = subst (λ (h : Stored). LastChunkFits g.C.Chunk.format (Some p) h.pieces h.limits) (sym c.self.view_is) c.requires.room in
     record {
       past = subst (λ k. IsPast (last_of (g.C.Chunk.list k)) p.time) (sym c.in-Some.ensures.value)
           (room-last g.C.Chunk.format g.C.Chunk.list g.C.Chunk.most p (deque_len chunks - 1) chunks.items c.in-Some.last.now long room).0;

@@ -2,7 +2,7 @@ use Rattle.std.proofs.Common.{◌≡◌, ◌+◌, ◌≤◌, List, length, map, 
 use Rattle.std.specs.Prelude.{Option}
 use Rattle.ts_spec.specs.Sample.{Point, IsAscending}
 use Rattle.ts_sample.specs.Chunk.{joined}
-use Rattle.ts_series.specs.Stored.{Change, HasRoomFor, replaced, with_last, pieces_after, limits_after}
+use Rattle.ts_series.specs.Stored.{Change, LastChunkFits, replaced, with_last, pieces_after, limits_after}
 use Rattle.ts_series.proofs.Appended.{ascending-before}
 use Rattle.ts_series.proofs.chunks.Chunks.apply.Goals as goal
 use Rattle.ts_series.proofs.chunks.Chunks.apply.Goals.{After-replace}
@@ -33,10 +33,10 @@ append-requires-clause-room g c =
     let old = c.args.self.now in
     let d = c.change.inside in
     let format = g.C.Chunk.format in
-    let room = subst (λ (e : Change). HasRoomFor format e.appended (replaced e.start e.end e.pieces old.pieces) (replaced e.start e.end e.limits old.limits)) (sym c.change.view_is) c.requires.appends in
-    subst (HasRoomFor format (Some c.in-Some.sample) c.replace.new.self.pieces) (sym c.replace.ensures.limits)
-    (subst (λ (pss : List (List Point)). HasRoomFor format (Some c.in-Some.sample) pss (replaced d.start d.end (map g.C.Chunk.most d.chunks.items) old.limits)) (sym c.replace.ensures.pieces)
-    (subst (λ (o : Option Point). HasRoomFor format o (replaced d.start d.end (map g.C.Chunk.list d.chunks.items) old.pieces) (replaced d.start d.end (map g.C.Chunk.most d.chunks.items) old.limits)) c.in-Some.is room))
+    let room = subst (λ (e : Change). LastChunkFits format e.appended (replaced e.start e.end e.pieces old.pieces) (replaced e.start e.end e.limits old.limits)) (sym c.change.view_is) c.requires.appends in
+    subst (LastChunkFits format (Some c.in-Some.sample) c.replace.new.self.pieces) (sym c.replace.ensures.limits)
+    (subst (λ (pss : List (List Point)). LastChunkFits format (Some c.in-Some.sample) pss (replaced d.start d.end (map g.C.Chunk.most d.chunks.items) old.limits)) (sym c.replace.ensures.pieces)
+    (subst (λ (o : Option Point). LastChunkFits format o (replaced d.start d.end (map g.C.Chunk.list d.chunks.items) old.pieces) (replaced d.start d.end (map g.C.Chunk.most d.chunks.items) old.limits)) c.in-Some.is room))
 
 -- the pieces after the replacement, with the sample that is appended
 appended : (g : _) (c : After-replace g) (o : Option Point) → c.change.inside.appended ≡ o → with_last o c.replace.new.self.pieces ≡ pieces_after c.args.change c.args.self.now.pieces

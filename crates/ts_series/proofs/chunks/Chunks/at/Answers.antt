@@ -1,6 +1,6 @@
 use Rattle.std.proofs.Common.{◌≡◌, ◌≤◌, [], length, get_or, refl, sym, ◌∙◌, ap, subst, arith}
 use Rattle.ts_spec.specs.Sample.{IsAscending, at, between}
-use Rattle.ts_series.specs.declared.chunk_questions.Ends.{Ends}
+use Rattle.ts_series.specs.declared.chunk_queries.ScanEnds.{ScanEnds}
 use Rattle.ts_series.specs.Stored.{Stored, points}
 use Rattle.ts_series.proofs.Joined.{longest-at}
 use Rattle.ts_series.proofs.Answering.{IsPiece, pieces-length, piece, at-piece, get-past, not-less}
@@ -41,7 +41,7 @@ returns g c =
     let it = one g goes.After-new-ends in
     let ps = g.C.Chunk.list c.in_ok-chunk.chunk.now in
     record {
-      at = ap (λ (e : Ends). e.last) c.scan.ensures.visited ∙ ends-last c.new-ends.result (between c.args.time c.args.time ps) c.new-ends.ensures.last
+      at = ap (λ (e : ScanEnds). e.last) c.scan.ensures.visited ∙ ends-last c.new-ends.result (between c.args.time c.args.time ps) c.new-ends.ensures.last
           ∙ at-last c.args.time ps it.chunk.ascending ∙ ap (at c.args.time) it.here ∙ sym (there g goes.After-before-2);
       steps = record {
         counted = omega (arith, c.scan.ensures.counted);

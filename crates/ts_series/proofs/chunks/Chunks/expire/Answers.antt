@@ -2,7 +2,7 @@ use Rattle.std.proofs.Common.{◌≡◌, ◌-◌, nat_le, List, ◌∷◌, lengt
 use Rattle.std.proofs.lemmas.List.{length-map}
 use Rattle.ts_spec.specs.Sample.{Point, at_times}
 use Rattle.ts_sample.specs.Chunk.{joined}
-use Rattle.ts_series.specs.Stored.{Stored, AreAmong, AreKept, IsTrimmed}
+use Rattle.ts_series.specs.Stored.{Stored, AreAmong, AreStoredChunks, IsTrimmed}
 use Rattle.ts_series.proofs.Expired.{kept-past, kept-rest}
 use Rattle.ts_series.proofs.Limits.{among-self}
 use Rattle.ts_series.proofs.chunks.Chunks.expire.Goals as goal
@@ -13,9 +13,9 @@ loop-self-init g c = record { kept = refl; limits = λ one. among-self one c.arg
 pub invariant_of-self : goal.invariant_of-self
 invariant_of-self g c =
     let count = c.self.inside.count in
-    subst (λ n. AreKept g.C.Chunk.format (map g.C.Chunk.list c.pop_front.new.self.items) (map g.C.Chunk.most c.pop_front.new.self.items) (count - n)) (sym c.len.ensures)
+    subst (λ n. AreStoredChunks g.C.Chunk.format (map g.C.Chunk.list c.pop_front.new.self.items) (map g.C.Chunk.most c.pop_front.new.self.items) (count - n)) (sym c.len.ensures)
     (kept-rest g.C.Chunk.format g.C.Chunk.list g.C.Chunk.most c.in-Some.chunk c.pop_front.new.self.items count
-    (subst (λ ks. AreKept g.C.Chunk.format (map g.C.Chunk.list ks) (map g.C.Chunk.most ks) count) c.in-Some.ensures.items c.self.invariant))
+    (subst (λ ks. AreStoredChunks g.C.Chunk.format (map g.C.Chunk.list ks) (map g.C.Chunk.most ks) count) c.in-Some.ensures.items c.self.invariant))
 
 pub loop-self-preserved-in-Some : goal.loop-self-preserved-in-Some
 loop-self-preserved-in-Some g c =

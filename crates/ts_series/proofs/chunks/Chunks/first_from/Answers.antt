@@ -1,7 +1,7 @@
 use Rattle.std.proofs.Common.{◌≡◌, ◌≤◌, List, length, get_or, refl, sym, ◌∙◌, ap, subst, arith}
 use Rattle.std.specs.Prelude.{nat_le}
 use Rattle.ts_spec.specs.Sample.{Point, IsAscending, at_times, between, first_of}
-use Rattle.ts_series.specs.declared.chunk_questions.Ends.{Ends}
+use Rattle.ts_series.specs.declared.chunk_queries.ScanEnds.{ScanEnds}
 use Rattle.ts_series.specs.Stored.{Stored, points}
 use Rattle.ts_series.proofs.Joined.{longest-at}
 use Rattle.ts_series.proofs.Answering.{IsPiece, pieces-length, piece, first-late, none-late, not-less}
@@ -60,7 +60,7 @@ returns g c =
     let it = one g at in
     let ps = g.C.Chunk.list c.in_ok-chunk.chunk.now in
     record {
-      first = ap (λ (e : Ends). e.first) c.scan.ensures.visited ∙ ends-first c.new-ends.result (between c.args.time 18446744073709551615 ps) c.new-ends.ensures.first
+      first = ap (λ (e : ScanEnds). e.first) c.scan.ensures.visited ∙ ends-first c.new-ends.result (between c.args.time 18446744073709551615 ps) c.new-ends.ensures.first
           ∙ ap first_of (late-is c.args.time ps it.chunk.fine) ∙ sym (there g at);
       steps = record {
         counted = omega (arith, c.scan.ensures.counted);

@@ -2,14 +2,14 @@ use Rattle.std.proofs.Common.{◌≡◌, ◌+◌, ◌-◌, ◌≤◌, length, ma
 use Rattle.std.specs.Prelude.{slice_range}
 use Rattle.ts_spec.specs.Sample.{IsAscending}
 use Rattle.ts_sample.specs.Chunk.{joined}
-use Rattle.ts_series.specs.Stored.{Stored, AreKept, replaced}
+use Rattle.ts_series.specs.Stored.{Stored, AreStoredChunks, replaced}
 use Rattle.ts_series.proofs.Changed.{count-replaced, new-in, few-kept, map-replaced, kept-replaced}
 use Rattle.ts_series.proofs.PieceCounts.{joined-same}
 use Rattle.ts_series.proofs.chunks.Chunks.replace.Goals as goal
 use Rattle.ts_series.proofs.chunks.Chunks.replace.Goals.{After-count_of-removed, After-count_in-added}
 
 -- all chunks with the new ones in their places are kept
-kept-with : (g : _) (c : After-count_of-removed g) → AreKept g.C.Chunk.format (map g.C.Chunk.list (replaced c.args.start c.args.end c.args.chunks.items c.self.inside.chunks.items))
+kept-with : (g : _) (c : After-count_of-removed g) → AreStoredChunks g.C.Chunk.format (map g.C.Chunk.list (replaced c.args.start c.args.end c.args.chunks.items c.self.inside.chunks.items))
     (map g.C.Chunk.most (replaced c.args.start c.args.end c.args.chunks.items c.self.inside.chunks.items)) (length (joined (map g.C.Chunk.list (replaced c.args.start c.args.end c.args.chunks.items c.self.inside.chunks.items))))
 kept-with g c =
     let start = c.args.start in

@@ -24,10 +24,10 @@ both-are : (g : _) (c : After-index-2 g) → IsOne g.C.Chunk.format g.C.Chunk.li
     → g.C.Chunk.list c.index.result.now ++ g.C.Chunk.list c.index-2.result.now ≡ get_or c.args.self.now.pieces c.args.start [] ++ get_or c.args.self.now.pieces (c.args.end - 1) []
 both-are g c one = λ i. one.piece i ++ (last g c).piece i
 
-pub left_of_both-requires : goal.left_of_both-requires
-left_of_both-requires g c =
+pub remaining_of_both-requires : goal.remaining_of_both-requires
+remaining_of_both-requires g c =
     let now = c.args.self.now in
-    let at = goal.at.left_of_both-requires g c in
+    let at = goal.at.remaining_of_both-requires g c in
     let kept = kept-view g.C.Chunk.format _ now c.self.inside.count c.self.view_is c.self.invariant in
     let within : c.args.end ≤ length now.pieces = c.requires.within in
     let more : c.args.start + 1 < c.args.end = omega (arith, c.requires.ordered, c.if-start-end.false, c.if-start-end-2.false) in
@@ -56,14 +56,14 @@ returns g c =
     let one = first g at.After-index in
     let more : c.args.start + 1 < c.args.end = omega (arith, c.requires.ordered, c.if-start-end.false, c.if-start-end-2.false) in
     record {
-      list = subst (λ (l : List Point). IfOk c.left_of_both.result (λ v. v.items ≡ l))
+      list = subst (λ (l : List Point). IfOk c.remaining_of_both.result (λ v. v.items ≡ l))
           (ap (outside from to) (both-are g at.After-index-2 one)
           ∙ times-append (λ t. not (is_within from to t)) (get_or now.pieces c.args.start []) (get_or now.pieces (c.args.end - 1) [])
           ∙ sym (left-two from to c.args.start c.args.end now.pieces c.requires more))
-          c.left_of_both.ensures.list;
-      unread = c.left_of_both.ensures.unread;
+          c.remaining_of_both.ensures.list;
+      unread = c.remaining_of_both.ensures.unread;
       steps = record {
-        counted = c.left_of_both.ensures.steps.counted;
-        bounded = omega (arith, c.left_of_both.ensures.steps.bounded, piece-short one, piece-short (last g at.After-index-2));
+        counted = c.remaining_of_both.ensures.steps.counted;
+        bounded = omega (arith, c.remaining_of_both.ensures.steps.bounded, piece-short one, piece-short (last g at.After-index-2));
       };
     }

@@ -13,12 +13,12 @@ one : (g : _) (c : After-index g) → IsPiece g.C.Chunk.format c.args.self.now c
 one g c =
     let size = pieces-length g.C.Chunk.list c.self.inside.chunks.items _ _ c.args.self.now c.self.view_is in
     piece g.C.Chunk.format g.C.Chunk.list g.C.Chunk.most c.self.inside.chunks.items _ c.self.inside.count c.args.self.now c.self.view_is c.self.invariant
-    c.loop-place.place c.index.result.now (omega (arith, size, c.loop-place-test.true, c.meeting-start.ensures.meeting.within)) c.index.ensures
+    c.loop-place.place c.index.result.now (omega (arith, size, c.loop-place-test.true, c.overlapping-start.ensures.overlapping.within)) c.index.ensures
 
 pub loop-place-init : goal.loop-place-init
 loop-place-init g c =
-    let m = c.meeting-start in
-    let none = none-first c.args.from c.args.to m.result.start m.result.end c.args.self.now.pieces m.ensures.meeting in
+    let m = c.overlapping-start in
+    let none = none-first c.args.from c.args.to m.result.start m.result.end c.args.self.now.pieces m.ensures.overlapping in
     record {
       visited = sym (ap (λ (ps : List Point). visited g.V.Visit.step c.args.visit.now ps) none);
       counted = omega (arith, ap length none);
@@ -54,16 +54,16 @@ loop-place-preserved g c =
 
 pub returns : goal.returns
 returns g c =
-    let m = c.meeting-start in
+    let m = c.overlapping-start in
     let pss = c.args.self.now.pieces in
     let sofar = c.loop-place.invariant in
-    let at_end : c.loop-place.place ≡ m.result.end = omega (arith, m.ensures.meeting.ordered) in
-    let all = all-taken c.args.from c.args.to m.result.start m.result.end pss m.ensures.meeting in
+    let at_end : c.loop-place.place ≡ m.result.end = omega (arith, m.ensures.overlapping.ordered) in
+    let all = all-taken c.args.from c.args.to m.result.start m.result.end pss m.ensures.overlapping in
     let long = ap (λ i. length (joined (take i pss))) at_end in
     record {
       visited = sofar.visited ∙ ap (λ i. visited g.V.Visit.step c.args.visit.now (between c.args.from c.args.to (joined (take i pss)))) at_end
           ∙ ap (λ (ps : List Point). visited g.V.Visit.step c.args.visit.now ps) all;
       counted = omega (arith, sofar.counted, ap (λ i. length (between c.args.from c.args.to (joined (take i pss)))) at_end, ap length all);
-      bounded = omega (arith, sofar.bounded, long, walked c.args.from c.args.to m.result.start m.result.end pss m.ensures.meeting);
-      seams = seamed-walk c.args.from c.args.to m.result.start m.result.end c.args.steps.now c.loop-place.steps pss m.ensures.meeting.ordered m.ensures.each (omega (arith, sofar.bounded, long));
+      bounded = omega (arith, sofar.bounded, long, walked c.args.from c.args.to m.result.start m.result.end pss m.ensures.overlapping);
+      seams = seamed-walk c.args.from c.args.to m.result.start m.result.end c.args.steps.now c.loop-place.steps pss m.ensures.overlapping.ordered m.ensures.each (omega (arith, sofar.bounded, long));
     }

@@ -1,0 +1,33 @@
+use Rattle.std.proofs.Common.{ℕ, [], refl, ◌∙◌, ap, subst}
+use Rattle.std.specs.Prelude.{Some}
+use Rattle.ts_execution.proofs.Carried.{carries_none, carries_then}
+use Rattle.ts_engine.specs.CaptureSteps.{WroteOrFault}
+use Rattle.ts_engine.proofs.CapturesOn.{went_none, answers_then, went_then}
+use Rattle.ts_engine.proofs.capture_session.CaptureSession.answer_all.Goals as goal
+
+pub loop-capture_go-init : goal.loop-capture_go-init
+loop-capture_go-init g c = record {
+  went = carries_none _ _ (λ from stands. went_none _ _ _ [] (λ more. refl) (λ more. refl) refl);
+  asked = c.requires.asked;
+  fed = refl;
+  fine = refl;
+}
+
+pub returns-in-Some-clause-goes : goal.returns-in-Some-clause-goes
+returns-in-Some-clause-goes g c =
+    carries_then _ _ _ _ _ _ (λ from between to went goes. answers_then _ _ _ _ [] went c.in-Some.capture_go _ _ goes) c.loop-capture_go.invariant.went c.in-Some.ensures.goes
+
+pub returns-in-Some-clause-answered : goal.returns-in-Some-clause-answered
+returns-in-Some-clause-answered g c = λ is. c.in-Some.ensures.answered (ap Some is)
+
+pub returns-in-Some-clause-cause : goal.returns-in-Some-clause-cause
+returns-in-Some-clause-cause g c =
+    subst (λ (n : ℕ). WroteOrFault n (g.K.Sink.faults c.answer_next.new.out) (Some c.in-Some.capture_go)) c.loop-capture_go.invariant.fine c.in-Some.ensures.cause
+
+pub loop-capture_go-preserved : goal.loop-capture_go-preserved
+loop-capture_go-preserved g c = record {
+  went = carries_then _ _ _ _ _ _ (λ from between to went goes. went_then _ _ _ _ [] went _ _ goes) c.loop-capture_go.invariant.went c.in_default.ensures.goes;
+  asked = c.in_default.ensures.asked refl;
+  fed = c.in_default.ensures.fed ∙ c.loop-capture_go.invariant.fed;
+  fine = c.in_default.ensures.cause ∙ c.loop-capture_go.invariant.fine;
+}

@@ -1,4 +1,0 @@
-use Rattle.ts_engine.proofs.replay.Replay.piece.Given as goal
-
-abbrev pub ghosts-answer_all : goal.ghosts-answer_all
-ghosts-answer_all g a = record { name = a.blank.name; parts = a.blank.parts }

@@ -1,4 +1,0 @@
-use Rattle.ts_engine.proofs.session.Session.piece_by.Given as goal
-
-abbrev pub ghosts-take_piece : goal.ghosts-take_piece
-ghosts-take_piece g a = record { name = a.blank.name; parts = a.blank.parts }

@@ -1,6 +1,0 @@
-use Rattle.ts_resp.specs.Replies.{reply_of}
-use Rattle.ts_execution.proofs.Restores.{restores-drop}
-use Rattle.ts_execution.proofs.restored.restore_drop.Goals as goal
-
-pub returns : goal.returns
-returns c = record { restores = restores-drop c.args.keys.now c.args.db.now c.drop_keys.new.db (reply_of c.drop_keys.result) c.drop_keys.ensures.answer }

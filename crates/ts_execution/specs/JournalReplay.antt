@@ -1,0 +1,166 @@
+-- How the requests of a journal are replayed.
+use Rattle.std.specs.Prelude.{◌≡◌, ⊤, Bool, true, false, ℕ, ◌≤◌, ◌+◌, List, [], ◌∷◌, ◌++◌, length, map, Option, IfNone, None, Some, Result, Ok, Err}
+use Rattle.std.specs.Io.KnownBytes.{Consumes}
+use Rattle.std.specs.Option.{unwrap_or}
+use Rattle.ts_db.specs.DbState.{DbState, DbView, Simulates}
+use Rattle.ts_db.specs.declared.fault.DbFault.{DbFault}
+use Rattle.ts_db.specs.declared.fault.DbFault.TheVariants as fault
+use Rattle.ts_resp.specs.Reading.{Reading, stream_of, ended_at, fed, unfinished}
+use Rattle.ts_command.specs.declared.fault.CommandFault.{CommandFault}
+use Rattle.ts_command.specs.declared.fault.CommandFault.TheVariants as spoken
+use Rattle.ts_spec.specs.Command.{Triple, Command}
+use Rattle.ts_spec.specs.Grammar.{command}
+use Rattle.ts_spec.specs.Replies.{reply_list, item_reply}
+use Rattle.ts_spec.specs.Response.{Wrote}
+use Rattle.ts_spec.specs.Step.{Outcome, triple_step, item_of}
+use Rattle.ts_spec.specs.State.{State}
+use Rattle.ts_spec.specs.Wire.{Request}
+use Rattle.ts_spec.specs.declared.limits.Limits.{Limits}
+use Rattle.ts_spec.specs.declared.wire.WireLimits.{WireLimits}
+use Rattle.ts_journal.specs.Loading.{Load, Loads, BreaksAt, apply_recorded, apply_recorded_request, load_on, load_from}
+use Rattle.ts_journal.specs.RecordReplay.{has_error}
+use Rattle.ts_execution.specs.declared.journal_replay.ReplayResult.{ReplayResult}
+use Rattle.ts_execution.specs.declared.journal_replay.ReplayResult.TheVariants as replay_result
+use Rattle.ts_execution.specs.declared.next_change.NextChange.{NextChange}
+use Rattle.ts_execution.specs.declared.next_change.NextChange.TheVariants as found
+use Rattle.ts_execution.specs.declared.loading.Piece.{Piece}
+use Rattle.ts_execution.specs.declared.loading.Piece.TheVariants as piece
+use Rattle.ts_execution.specs.declared.loading.Loaded.{Loaded}
+use Rattle.ts_execution.specs.declared.loading.Loaded.TheVariants as loaded
+use Rattle.ts_execution.specs.declared.loading.Loading.{Loading}
+
+-- ---- one request
+
+-- out of memory, or any other error
+abbrev pub replay_result_of_fault : DbFault → ReplayResult
+replay_result_of_fault (fault.Memory e) = replay_result.Memory
+replay_result_of_fault other = replay_result.Refused
+
+-- the result of a replay, from a result of the database
+abbrev pub replay_result_of : {T : Type 0} → Result T DbFault → ReplayResult
+replay_result_of (Ok x) = replay_result.Accepted
+replay_result_of (Err f) = replay_result_of_fault f
+
+-- The command leads from one state to the other; or it is invalid in a journal; or memory ran out.
+abbrev pub ReplaysCommand : ReplayResult → Command → (from to : DbState) → Type 0
+ReplaysCommand replay_result.Accepted c from to = (apply_recorded from.limits from.state c ≡ Some to.state) × (to.limits ≡ from.limits)
+ReplaysCommand replay_result.Refused c from to = (apply_recorded from.limits from.state c ≡ None) × (to.limits ≡ from.limits)
+ReplaysCommand replay_result.Memory c from to = ⊤
+
+-- the sample was written; or the triple was rejected; or memory ran out
+abbrev pub ReplaysTriple : ReplayResult → Triple → (from to : DbState) → Type 0
+ReplaysTriple replay_result.Accepted triple from to =
+    let done : Outcome = triple_step from.limits from.state 0 triple.key triple.at triple.value in
+    (time : ℕ) × (item_of done.response ≡ Wrote time ∷ []) × (to.state ≡ done.state) × (to.limits ≡ from.limits)
+ReplaysTriple replay_result.Refused triple from to =
+    (has_error (reply_list (map item_reply (item_of (triple_step from.limits from.state 0 triple.key triple.at triple.value).response))) ≡ true) × (to.limits ≡ from.limits)
+ReplaysTriple replay_result.Memory triple from to = ⊤
+
+-- out of memory while parsing the arguments, or an error in them
+abbrev pub replay_result_of_words : CommandFault → ReplayResult
+replay_result_of_words (spoken.Memory e) = replay_result.Memory
+replay_result_of_words other = replay_result.Refused
+
+-- the same for the command that these arguments make
+abbrev pub ReplaysRequest : ReplayResult → Request → (from to : DbState) → Type 0
+ReplaysRequest replay_result.Accepted words from to = (apply_recorded_request from.limits from.state (command words) ≡ Some to.state) × (to.limits ≡ from.limits)
+ReplaysRequest replay_result.Refused words from to = (apply_recorded_request from.limits from.state (command words) ≡ None) × (to.limits ≡ from.limits)
+ReplaysRequest replay_result.Memory words from to = ⊤
+
+-- ---- the requests of a reader
+
+-- The next request was replayed, and more may follow; or no complete one is left; or the journal breaks here; or memory
+-- ran out. `end` is the offset after the requests replayed before. Holds for any bytes that follow and any size of the
+-- journal.
+abbrev pub IsNextChange : NextChange → (old new : Reading) → (end : ℕ) → (from to : DbState) → Type 0
+IsNextChange (found.Change end') old new end from to = (to.limits ≡ from.limits)
+    × ((size : ℕ) (more : List ℕ) → load_on from.limits from.state end size (stream_of old more) ≡ load_on from.limits to.state end' size (stream_of new more))
+IsNextChange found.Nothing old new end from to = (to ≡ from) × ((more : List ℕ) → stream_of new more ≡ stream_of old more)
+IsNextChange (found.Broken place) old new end from to = (to.limits ≡ from.limits)
+    × ((size : ℕ) (more : List ℕ) → load_on from.limits from.state end size (stream_of old more) ≡ BreaksAt place)
+IsNextChange found.Memory old new end from to = ⊤
+
+-- by the replayed request, which ends at `after`; those before it end at `before`
+abbrev pub next_change_by : ReplayResult → (after before : ℕ) → NextChange
+next_change_by replay_result.Accepted after before = found.Change after
+next_change_by replay_result.Refused after before = found.Broken before
+next_change_by replay_result.Memory after before = found.Memory
+
+-- a fact, if a change was replayed
+abbrev pub IfChange : NextChange → Type 0 → Type 0
+IfChange (found.Change end) what = what
+IfChange other what = ⊤
+
+-- ---- pieces
+
+-- What the remaining bytes load to, for a journal of `size` bytes. The bytes so far led to state `m`, unless the
+-- journal broke.
+abbrev pub loads_by : Option ℕ → Limits → Loading → State → (size : ℕ) → (more : List ℕ) → Load
+loads_by (Some place) limits l m size more = BreaksAt place
+loads_by None limits l m size more = load_on limits m l.end size (stream_of l.reader more)
+
+-- what the remaining bytes load to
+abbrev pub loads : Limits → Loading → State → (size : ℕ) → (more : List ℕ) → Load
+loads limits l m size more = loads_by l.broken limits l m size more
+
+-- the reader has no complete request left, and its current request begins within the bytes it was fed
+pub record HasNoWholeRequest (r : Reading) : Type 0 where
+  pub rest : stream_of r [] ≡ ended_at (unfinished r)
+  pub begun : r.begin ≤ fed r
+
+-- every complete request was replayed, unless the journal broke
+abbrev pub IsCurrent : Loading → Type 0
+IsCurrent l = IfNone l.broken (HasNoWholeRequest l.reader)
+
+-- The complete requests in these bytes were replayed: loading the rest from the new state gives what loading all from
+-- the old one does.
+pub record LoadsOn (old new : Loading) (bytes : List ℕ) (from to : DbState) : Type 0 where
+  pub limits : to.limits ≡ from.limits
+  pub on : (size : ℕ) (more : List ℕ) → loads from.limits old from.state size (bytes ++ more) ≡ loads from.limits new to.state size more
+
+-- the same, if there was memory
+abbrev pub LoadsIf : (done : Bool) → (old new : Loading) → (bytes : List ℕ) → (from to : DbState) → Type 0
+LoadsIf true old new bytes from to = LoadsOn old new bytes from to
+LoadsIf false old new bytes from to = ⊤
+
+-- `taken` bytes of the journal were read, and every request that they complete was replayed
+pub record ReplaysPiece (taken : ℕ) (left rest : Option (List ℕ)) (old new : Loading) (a b : DbView) : Type 0 where
+  pub bytes : List ℕ
+  pub took : Consumes left rest bytes
+  pub count : length bytes ≡ taken
+  pub goes : Simulates a b (λ from to. LoadsOn old new bytes from to)
+  pub current : IsCurrent new
+  pub within : fed new.reader ≤ fed old.reader + taken
+
+-- a fact about the size of the piece, if one was read
+abbrev pub IfRead : Piece → (ℕ → Type 0) → Type 0
+IfRead (piece.Read count) what = what count
+IfRead other what = ⊤
+
+-- ---- the whole journal
+
+-- how a journal with these bytes was loaded
+abbrev pub IsLoaded : Loaded → WireLimits → (from to : DbState) → List ℕ → Type 0
+IsLoaded (loaded.Whole place) wire from to bytes = (load_from from.limits wire from.state bytes ≡ Loads to.state place) × (to.limits ≡ from.limits)
+IsLoaded (loaded.Broken place) wire from to bytes = load_from from.limits wire from.state bytes ≡ BreaksAt place
+IsLoaded other wire from to bytes = ⊤
+
+-- the result depends on the content alone: the journal loads, or it breaks
+abbrev pub IsJudged : Loaded → Type 0
+IsJudged (loaded.Whole place) = ⊤
+IsJudged (loaded.Broken place) = ⊤
+IsJudged other = ⊥
+
+-- the complete requests end within the bytes read
+abbrev pub EndsWithin : Loaded → (read : ℕ) → Type 0
+EndsWithin (loaded.Whole place) read = place ≤ read
+EndsWithin other read = ⊤
+
+-- the result for a journal of `taken` bytes
+abbrev pub verdict_by : Option ℕ → Reading → (taken : ℕ) → Loaded
+verdict_by (Some place) reader taken = loaded.Broken place
+verdict_by None reader taken = loaded.Whole (unwrap_or (unfinished reader) taken)
+
+-- the same, from the state of the load
+abbrev pub verdict : Loading → (taken : ℕ) → Loaded
+verdict l taken = verdict_by l.broken l.reader taken

@@ -1,8 +1,0 @@
-use Rattle.std.proofs.lemmas.Result.{on_ok_weaker}
-use Rattle.ts_journal.proofs.Putting.{puts-then}
-use Rattle.ts_journal.proofs.changes.put_alter.Goals as goal
-
-pub returns : goal.returns
-returns c =
-    let p1 = puts-then c.in_ok-put.ensures c.in_ok-put_word.ensures in
-    on_ok_weaker c.put_change.result (λ e. puts-then p1 e) c.put_change.ensures

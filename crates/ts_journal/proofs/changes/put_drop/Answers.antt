@@ -1,7 +1,0 @@
-use Rattle.std.proofs.lemmas.Result.{on_ok_weaker}
-use Rattle.ts_journal.proofs.Putting.{puts-then}
-use Rattle.ts_journal.proofs.changes.put_drop.Goals as goal
-
-pub returns : goal.returns
-returns c =
-    on_ok_weaker c.put_keys.result (λ e. puts-then c.in_ok-put.ensures e) c.put_keys.ensures

@@ -1,7 +1,0 @@
-use Rattle.std.proofs.Common.{take}
-use Rattle.ts_journal.specs.Draft.{Puts}
-use Rattle.ts_journal.proofs.changes.put_keys.Given as goal
-
--- the keys before this one were appended
-abbrev pub invariant-loop-key : goal.invariant-loop-key
-invariant-loop-key l = Puts l.fn.draft l.draft (take l.key-index l.keys)

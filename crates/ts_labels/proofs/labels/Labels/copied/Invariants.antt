@@ -1,6 +1,0 @@
-use Rattle.std.proofs.Common.{◌≡◌, take}
-use Rattle.ts_labels.proofs.labels.Labels.copied.Given as goal
-
--- the labels so far
-abbrev pub invariant-loop-i : goal.invariant-loop-i
-invariant-loop-i l = l.copied ≡ take l.i l.self

@@ -1,0 +1,64 @@
+use Rattle.std.proofs.Common.{◌≤◌, Some, sym, subst, ap, ◌∙◌}
+use Rattle.std.specs.Ordering.{nat_cmp}
+use Rattle.std.specs.BTreeMap.{Updates}
+use Rattle.ts_mux.specs.Links.{pending_items_of, bytes_fed_to_current}
+use Rattle.ts_mux.proofs.Readers.{nothing_left, written, put_asked, put_within, ahead_put}
+use Rattle.ts_mux.proofs.mux.Mux.store_current.Goals as goal
+
+-- ---- the connection has an entry
+
+pub invariant_of-self-in-Some-get_mut-clause-asked : goal.invariant_of-self-in-Some-get_mut-clause-asked
+invariant_of-self-in-Some-get_mut-clause-asked c =
+    let m = c.args.self.now in
+    let held = c.in-Some.current_connection in
+    put_asked m.readers (c.get_mut.follows.lender held.reader) held
+    (written m.readers (c.get_mut.follows.lender held.reader) held.link c.in-Some-get_mut.kept.now held.reader (sym c.in-Some-get_mut.ensures.value) (c.get_mut.follows.holds held.reader))
+    (nothing_left m.current_connection held (sym c.take.ensures.value ∙ c.in-Some.is) c.requires.asked) m.asked
+
+pub invariant_of-self-in-Some-get_mut-clause-within : goal.invariant_of-self-in-Some-get_mut-clause-within
+invariant_of-self-in-Some-get_mut-clause-within c =
+    let m = c.args.self.now in
+    let held = c.in-Some.current_connection in
+    put_within m.readers (c.get_mut.follows.lender held.reader) held
+    (written m.readers (c.get_mut.follows.lender held.reader) held.link c.in-Some-get_mut.kept.now held.reader (sym c.in-Some-get_mut.ensures.value) (c.get_mut.follows.holds held.reader))
+    m.delivered (subst (λ current_connection. bytes_fed_to_current current_connection ≤ m.delivered) (sym c.take.ensures.value ∙ c.in-Some.is) m.current_within) m.within
+
+pub returns-in-Some-get_mut-clause-same : goal.returns-in-Some-get_mut-clause-same
+returns-in-Some-get_mut-clause-same c = λ frames.
+    let m = c.args.self.now in
+    let held = c.in-Some.current_connection in
+    let is = sym c.take.ensures.value ∙ c.in-Some.is in
+    ap (λ current_connection. pending_items_of m.limits m.closed (c.get_mut.follows.lender held.reader) current_connection frames) c.take.ensures.after
+    ∙ ahead_put m.readers (c.get_mut.follows.lender held.reader) held
+    (written m.readers (c.get_mut.follows.lender held.reader) held.link c.in-Some-get_mut.kept.now held.reader (sym c.in-Some-get_mut.ensures.value) (c.get_mut.follows.holds held.reader))
+    m.limits m.closed (nothing_left m.current_connection held is c.requires.asked) frames
+    ∙ ap (λ current_connection. pending_items_of m.limits m.closed m.readers current_connection frames) (sym is)
+
+-- ---- it has none
+
+pub invariant_of-self-in-Ok-clause-asked : goal.invariant_of-self-in-Ok-clause-asked
+invariant_of-self-in-Ok-clause-asked c =
+    let m = c.args.self.now in
+    let held = c.in-Some.current_connection in
+    put_asked m.readers c.insert.new.self held
+    (subst (λ readers. Updates nat_cmp readers c.insert.new.self held.link (Some held.reader)) c.get_mut.follows.holds-at-none c.in-Ok.ensures.updates)
+    (nothing_left m.current_connection held (sym c.take.ensures.value ∙ c.in-Some.is) c.requires.asked) m.asked
+
+pub invariant_of-self-in-Ok-clause-within : goal.invariant_of-self-in-Ok-clause-within
+invariant_of-self-in-Ok-clause-within c =
+    let m = c.args.self.now in
+    let held = c.in-Some.current_connection in
+    put_within m.readers c.insert.new.self held
+    (subst (λ readers. Updates nat_cmp readers c.insert.new.self held.link (Some held.reader)) c.get_mut.follows.holds-at-none c.in-Ok.ensures.updates)
+    m.delivered (subst (λ current_connection. bytes_fed_to_current current_connection ≤ m.delivered) (sym c.take.ensures.value ∙ c.in-Some.is) m.current_within) m.within
+
+pub returns-in-Ok-clause-same : goal.returns-in-Ok-clause-same
+returns-in-Ok-clause-same c = λ frames.
+    let m = c.args.self.now in
+    let held = c.in-Some.current_connection in
+    let is = sym c.take.ensures.value ∙ c.in-Some.is in
+    ap (λ current_connection. pending_items_of m.limits m.closed c.insert.new.self current_connection frames) c.take.ensures.after
+    ∙ ahead_put m.readers c.insert.new.self held
+    (subst (λ readers. Updates nat_cmp readers c.insert.new.self held.link (Some held.reader)) c.get_mut.follows.holds-at-none c.in-Ok.ensures.updates)
+    m.limits m.closed (nothing_left m.current_connection held is c.requires.asked) frames
+    ∙ ap (λ current_connection. pending_items_of m.limits m.closed m.readers current_connection frames) (sym is)

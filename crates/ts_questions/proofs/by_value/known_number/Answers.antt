@@ -1,4 +1,0 @@
-use Rattle.ts_questions.proofs.by_value.known_number.Goals as goal
-
-pub returns : goal.returns
-returns c = record { is = c.key_of-key.ensures.numbered; one = c.key_of-key.ensures.one }

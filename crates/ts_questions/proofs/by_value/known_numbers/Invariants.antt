@@ -1,7 +1,0 @@
-use Rattle.std.proofs.Common.{All, drop}
-use Rattle.ts_questions.specs.Grouping.{IsNumbered}
-use Rattle.ts_questions.proofs.by_value.known_numbers.Given as goal
-
--- where those that are left are known, all are
-abbrev pub invariant-loop-id : goal.invariant-loop-id
-invariant-loop-id l = All (IsNumbered l.db.ids) (drop l.id-index l.ids) → All (IsNumbered l.db.ids) l.ids

@@ -1,8 +1,0 @@
-use Rattle.std.proofs.Common.{List, ◌++◌, map, take}
-use Rattle.ts_spec.specs.Answer.{Row}
-use Rattle.ts_range.specs.Query.{row_of}
-use Rattle.ts_questions.proofs.from_back.hand_on.Given as goal
-
--- those before the one at hand were handed on
-abbrev pub invariant-loop-row : goal.invariant-loop-row
-invariant-loop-row g l = (before : List Row) → g.T.Take.has l.fn.taker before → g.T.Take.has l.taker (before ++ map row_of (take l.row-index l.rows))

@@ -1,5 +1,0 @@
-use Rattle.ts_questions.proofs.ManyReplies.{many-written}
-use Rattle.ts_questions.proofs.members.put_members.Goals as goal
-
-pub returns-clause-reply : goal.returns-clause-reply
-returns-clause-reply g c = many-written c.args.db.now c.args.wanted.now c.args.filters.now c.put_many.new.out.bytes c.put_many.ensures.reply

@@ -1,5 +1,0 @@
-use Rattle.ts_spec.proofs.OneBucket.{one-bucket-shows}
-use Rattle.ts_spec.proofs.laws.one_bucket_shows_at_its_start.Goals as goal
-
-pub returns : goal.returns
-returns c = one-bucket-shows

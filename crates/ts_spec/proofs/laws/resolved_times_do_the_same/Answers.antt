@@ -1,8 +1,0 @@
-use Rattle.ts_spec.proofs.ResolvedTimes.{step-resolved, no-clock}
-use Rattle.ts_spec.proofs.laws.resolved_times_do_the_same.Goals as goal
-
-pub returns-clause-clock : goal.returns-clause-clock
-returns-clause-clock c = no-clock
-
-pub returns-clause-step : goal.returns-clause-step
-returns-clause-step c = step-resolved

@@ -1,5 +1,0 @@
-use Rattle.ts_spec.proofs.Settles.{settled-twice}
-use Rattle.ts_spec.proofs.laws.settling_twice_is_settling_once.Goals as goal
-
-pub returns : goal.returns
-returns c = settled-twice

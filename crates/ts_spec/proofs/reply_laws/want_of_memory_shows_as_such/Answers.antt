@@ -1,5 +1,0 @@
-use Rattle.ts_spec.proofs.WantOfMemory.{reply-not-memory, item-not-memory, fault-not-memory, kind-not-memory}
-use Rattle.ts_spec.proofs.reply_laws.want_of_memory_shows_as_such.Goals as goal
-
-pub returns : goal.returns
-returns c = record { responses = reply-not-memory; triples = item-not-memory; faults = fault-not-memory; protocol = kind-not-memory }

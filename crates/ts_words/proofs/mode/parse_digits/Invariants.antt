@@ -1,0 +1,15 @@
+use Rattle.std.proofs.Common.{◌≡◌, ◌+◌, ◌-◌, ◌*◌, ◌<◌, ◌≤◌, ◌^◌, length, drop}
+use Rattle.std.specs.List.{list_all}
+use Rattle.std.specs.Prelude.{fold}
+use Rattle.ts_words.specs.Modes.{is_digit, digits_number}
+use Rattle.ts_words.proofs.mode.parse_digits.Given as goal
+
+-- the number so far continues to that of the whole word, and every byte so far is a digit
+abbrev pub invariant-loop-byte : goal.invariant-loop-byte
+invariant-loop-byte l = record {
+  value : fold (λ n byte. 10 * n + (byte - 48)) l.total (drop l.byte-index l.word) ≡ digits_number l.word;
+  digits : list_all is_digit (drop l.byte-index l.word) ≡ list_all is_digit l.word;
+  small : l.total < 10 ^ l.byte-index;
+  short : length l.word ≤ 20;
+  some : 1 ≤ length l.word;
+}
