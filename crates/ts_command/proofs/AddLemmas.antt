@@ -1,4 +1,4 @@
--- The words of TS.ADD, and of TS.INCRBY and TS.DECRBY.
+-- The arguments of TS.ADD, TS.INCRBY and TS.DECRBY.
 use Rattle.std.proofs.Common.{◌≡◌, ◌≤◌, ◌-◌, ℤ, List, [], ◌∷◌, length, take, drop, get_or, refl, arith}
 use Rattle.std.proofs.Math.Seq.{take-length}
 use Rattle.std.specs.Prelude.{Ok}

@@ -1,4 +1,4 @@
--- What a fault that was answered says.
+-- The meaning of an error of `read`.
 use Rattle.std.proofs.Common.{◌≡◌, refl, sym, subst, ◌⊎◌, inl, inr}
 use Rattle.std.specs.Prelude.{Result, Ok, Err, IsTrue}
 use Rattle.std.specs.Result.{IsErrAnd}

@@ -1,4 +1,4 @@
--- Labels and their values, one after another.
+-- Labels and their values, one by one.
 use Rattle.std.proofs.Common.{◌≡◌, Bool, true, false, ◌||◌, if◌then◌else◌, List, [], ◌∷◌, ap}
 use Rattle.std.specs.Prelude.{Ok, Err}
 use Rattle.ts_spec.specs.State.{Label}

@@ -1,4 +1,4 @@
--- Words of a list, one after another.
+-- The words of a list, one by one.
 use Rattle.std.proofs.Common.{ℕ, List, ◌++◌}
 use Rattle.std.specs.Prelude.{Result, Ok}
 use Rattle.ts_spec.specs.Filter.{Filter}

@@ -1,4 +1,4 @@
--- Options: the one that a word names, its own words, and the options that follow.
+-- Options: their names, their arguments, and the options after them.
 use Rattle.std.proofs.Common.{◌≡◌, ℕ, zero, suc, Bool, true, false, ◌||◌, List, [], ◌∷◌, take, drop, map, IsTrue, refl, sym, ap, ◌∙◌}
 use Rattle.std.specs.Prelude.{Ok, Option, None, Some, option_map, IfSome}
 use Rattle.std.specs.Str.{str_eq_ignore_ascii_case}

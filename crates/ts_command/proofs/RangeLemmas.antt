@@ -1,4 +1,4 @@
--- The words of TS.RANGE and TS.REVRANGE.
+-- The arguments of TS.RANGE and TS.REVRANGE.
 use Rattle.std.proofs.Common.{◌≡◌, ◌≤◌, ◌-◌, ℕ, Bool, List, [], ◌∷◌, length, take, drop, get_or, refl, arith}
 use Rattle.std.proofs.Math.Seq.{take-length}
 use Rattle.std.specs.Prelude.{Ok, Err}

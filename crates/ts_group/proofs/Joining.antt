@@ -1,4 +1,4 @@
--- Keys with commas between them, and one more at their end.
+-- Keys separated by commas, after appending one more.
 use Rattle.std.proofs.Common.{◌≡◌, ℕ, Bool, true, if◌then◌else◌, List, [], ◌∷◌, ◌++◌, map, codes, refl, sym, ap, ◌∙◌, append_assoc}
 use Rattle.ts_spec.specs.Key.{Key}
 use Rattle.ts_spec.specs.Groups.{Labelled, sources}

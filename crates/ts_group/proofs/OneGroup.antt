@@ -1,4 +1,4 @@
--- What is told of one group.
+-- The reply for one group.
 use Rattle.std.proofs.Common.{◌≡◌, ℕ, Bool, List, flat_map, codes, [], ◌∷◌, ◌++◌, Option, ap, ◌∙◌}
 use Rattle.ts_spec.specs.declared.bucket.Reducer.{Reducer}
 use Rattle.ts_spec.specs.Aggregate.{aggregator_of}

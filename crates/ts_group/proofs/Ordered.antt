@@ -1,4 +1,4 @@
--- Ascending lists of keys, each once, and maps that have something for each of them.
+-- Ascending lists of distinct keys, and maps over them.
 use Rattle.std.proofs.Common.{◌≡◌, ◌||◌, ◌⊎◌, Bool, true, false, cond, if◌then◌else◌, List, [], ◌∷◌, map, None, Some, inl, inr, refl, sym, ap, ◌∙◌}
 use Rattle.std.specs.Prelude.{⊤}
 use Rattle.std.proofs.lemmas.Bool.{false≢true}

@@ -1,4 +1,4 @@
--- Things that stand for series, by the values of a label.
+-- Grouping anything that represents a series by the value of a label.
 use Rattle.std.proofs.Common.{◌≡◌, ◌+◌, ℕ, Bool, true, false, List, [], ◌∷◌, ◌++◌, map, Option, None, Some, refl, sym, ap, ◌∙◌, append-nil, arith}
 use Rattle.std.specs.Prelude.{is_some, if◌then◌else◌, sum_by}
 use Rattle.std.proofs.lemmas.List.{map-append}

@@ -1,4 +1,4 @@
--- The times of rows and the numbers at each, with one more row at their end.
+-- The times of rows and their numbers, after adding one more row.
 use Rattle.std.proofs.Common.{◌≡◌, ℕ, ◌==◌, nat_lt, Bool, true, false, if◌then◌else◌, List, [], ◌∷◌, ◌++◌, refl, sym, ap, ◌∙◌, arith, eq-eqb, eqb-true, lt-ltb, le-ltb, append-nil}
 use Rattle.std.proofs.lemmas.Bool.{ltb-true, ltb-false, false≢true}
 use Rattle.std.specs.Ordering.{nat_cmp}

@@ -1,4 +1,4 @@
--- The values of a label and the series that have each, with one more series at their end.
+-- The values of a label and the series with each, after adding one more series.
 use Rattle.std.proofs.Common.{◌≡◌, ℕ, false, cond, if◌then◌else◌, List, [], ◌∷◌, ◌++◌, Option, None, Some, inl, inr, refl, ap, ◌∙◌, arith, eq-eqb, ne_eqb, lt-ltb, le-ltb, append-nil}
 use Rattle.std.proofs.lemmas.Bool.{cases_order}
 use Rattle.std.proofs.lemmas.List.Elements.{filter-append}

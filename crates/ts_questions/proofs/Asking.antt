@@ -1,4 +1,4 @@
--- A question that is made of a key, and what it comes to.
+-- Queries over the series of a key.
 use Rattle.std.proofs.Common.{◌≡◌, ◌+◌, ◌*◌, ◌≤◌, ℕ, Bool, arith}
 use Rattle.ts_spec.specs.Answer.{answer}
 use Rattle.ts_spec.specs.Key.{Key}

@@ -1,4 +1,4 @@
--- How few samples a key shows.
+-- The greatest number of samples that a key shows.
 use Rattle.std.proofs.Common.{◌≡◌, ℕ, suc, ◌+◌, ◌≤◌, Bool, true, false, cond, if◌then◌else◌, List, [], ◌∷◌, length, refl, sym, ap, subst, arith}
 use Rattle.std.specs.Prelude.{⊤, ◌&&◌, nat_lt, nat_le, Option, None, Some}
 use Rattle.std.proofs.lemmas.Bool.Decides.{nat_tests}

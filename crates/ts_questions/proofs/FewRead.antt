@@ -1,4 +1,4 @@
--- The first samples from a time on, up to another, as they are read one after another; and the last one.
+-- The first samples of an interval, read one by one; and the last one.
 use Rattle.std.proofs.Common.{◌≡◌, ℕ, zero, suc, ◌<◌, ◌≤◌, Bool, true, false, cond, List, [], ◌∷◌, ◌++◌, map, take, drop, refl, sym, ◌∙◌, ap, subst, append_assoc, append-nil, arith}
 use Rattle.std.specs.Prelude.{nat_le, reverse, None, Some}
 use Rattle.std.proofs.lemmas.Bool.Decides.{nat_tests}

@@ -1,4 +1,4 @@
--- What the database finds of a question.
+-- What the database finds for a query.
 use Rattle.std.proofs.Common.{◌≡◌, Bool, true, false, ℕ, List, [], ◌∷◌, refl, sym, ◌∙◌, ap, subst}
 use Rattle.std.specs.Prelude.{⊤, Option, None, Some, is_some, Ok, Err}
 use Rattle.std.proofs.lemmas.Bool.{false≢true}

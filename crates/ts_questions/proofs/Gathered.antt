@@ -1,4 +1,4 @@
--- Series that are gathered for a group, and groups that are written one after another.
+-- Adding series to groups, and writing groups one by one.
 use Rattle.std.proofs.Common.{Bor, ◌≡◌, ◌||◌, ℕ, ◌+◌, ◌≤◌, Bool, true, false, All, List, [], ◌∷◌, ◌++◌, map, length, refl, sym, ap, subst, ◌∙◌, append-nil, append_assoc, arith}
 use Rattle.std.specs.Prelude.{Option, None, Some, option_map, is_none, is_some, if◌then◌else◌, sum_by, Result, Ok, Err, OnOk}
 use Rattle.std.specs.Result.{is_err}

@@ -1,4 +1,4 @@
--- What is told in groups is the answer of the definitions.
+-- Replies with GROUPBY are those of the specification.
 use Rattle.std.proofs.Common.{◌≡◌, ◌+◌, ◌≤◌, inl, inr, Bool, true, false, ℕ, All, List, [], ◌∷◌, ◌++◌, map, refl, sym, ap, subst, ◌∙◌, arith}
 use Rattle.std.specs.Prelude.{flat_map, filter, Option, None, Some, option_map, is_none, is_some, if◌then◌else◌, sum_by}
 use Rattle.std.specs.List.{list_any}

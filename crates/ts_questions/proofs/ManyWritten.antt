@@ -1,4 +1,4 @@
--- What is written over many series: that it is too much of one, what is told of them, or that there is no memory.
+-- The output of a reply over many series: the reply, too many rows, or out of memory.
 use Rattle.std.proofs.Common.{◌≡◌, ℕ, Bool, true, false, List, inl, inr, sym, subst}
 use Rattle.std.specs.Prelude.{Option, None, Some, is_none, Result, Ok, Err, IfOk}
 use Rattle.ts_spec.specs.Answer.{Row}

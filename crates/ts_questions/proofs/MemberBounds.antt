@@ -1,4 +1,4 @@
--- The steps that are taken for each of many keys, added up.
+-- The steps over many keys, added up.
 use Rattle.std.proofs.Common.{◌≡◌, ℕ, ◌+◌, ◌≤◌, List, [], ◌∷◌, subst, arith}
 use Rattle.std.specs.Prelude.{sum_by, Some}
 use Rattle.std.proofs.lemmas.List.Sums.{sum_by-cons}

@@ -1,4 +1,4 @@
--- One member that is written.
+-- Writing one member.
 use Rattle.std.proofs.Common.{◌≡◌, Bool, false, ℕ, List, ◌++◌, refl, sym, ap, subst, ◌∙◌}
 use Rattle.std.specs.Prelude.{Option, None, Some, option_map, is_none, Result, Ok, Err, IfErr, OnOk}
 use Rattle.std.specs.declared.alloc.AllocError.{AllocError}

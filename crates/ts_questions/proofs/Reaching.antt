@@ -1,4 +1,4 @@
--- The first rows are told by the first samples.
+-- The first rows come from the first samples.
 use Rattle.std.proofs.Common.{◌≡◌, ℕ, ◌≤◌, ◌⊎◌, inl, inr, Bool, true, false, not, ◌&&◌, List, ◌++◌, map, length, take, get_or, sym, ◌∙◌, ap, arith}
 use Rattle.std.specs.Prelude.{nat_le, Option, None, Some}
 use Rattle.std.proofs.lemmas.Bool.Decides.{nat_tests}

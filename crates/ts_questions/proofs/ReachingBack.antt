@@ -1,4 +1,4 @@
--- The last rows are told by the last samples.
+-- The last rows come from the last samples.
 use Rattle.std.proofs.Common.{◌≡◌, ℕ, ◌≤◌, ◌⊎◌, inl, inr, Bool, true, not, ◌&&◌, List, ◌++◌, map, length, take, get_or, sym, ◌∙◌, ap, arith}
 use Rattle.std.specs.Prelude.{nat_lt, reverse, Option, None, Some}
 use Rattle.std.proofs.lemmas.Bool.Decides.{nat_tests}

@@ -1,4 +1,4 @@
--- Which faults of the database are refusals, and which are want of memory.
+-- Which errors of the database are rejections, and which mean out of memory.
 use Rattle.std.proofs.Common.{◌≡◌, ℕ, List, true, refl, sym, ◌∙◌, ap, subst, inl, inr}
 use Rattle.std.specs.Prelude.{Option, None, Some, is_some, Err}
 use Rattle.ts_spec.specs.Keyed.{Keyed}

@@ -1,4 +1,4 @@
--- The text of a reply that stands alone, and how many replies a list has.
+-- The text of a single reply, and the number of replies in a list.
 use Rattle.std.proofs.Common.{◌≡◌, ◌∙◌, ℕ, List, [], ◌∷◌, ◌++◌, length, refl, ap, arith}
 use Rattle.ts_spec.specs.Replies.{reply_list}
 use Rattle.ts_spec.specs.Text.{Reply, text, count_of}

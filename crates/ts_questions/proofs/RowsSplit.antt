@@ -1,4 +1,4 @@
--- The rows of samples are those of the earlier ones and then those of the later ones, where a bucket begins between them.
+-- The rows of samples are those of the earlier and then those of the later ones, if a bucket begins between them.
 use Rattle.std.proofs.Common.{◌≡◌, ◌⊎◌, inl, inr, ℕ, zero, suc, ◌-◌, ◌<◌, ◌≤◌, max, Bool, true, false, not, cond, ◌&&◌, List, [], ◌∷◌, ◌++◌, length, take, refl, sym, ◌∙◌, ap, subst, append_assoc, append-nil, arith}
 use Rattle.std.specs.Prelude.{nat_lt, filter, reverse, option_map, Option, None, Some, ⊤}
 use Rattle.std.specs.List.{All}

@@ -1,4 +1,4 @@
--- The search for a key that passes filters, and of which there is nothing to tell, over the numbers that may be those of such keys.
+-- Searching the candidates for a key that matches the filters and has too many rows.
 use Rattle.std.proofs.Common.{◌≡◌, ℕ, suc, ◌+◌, ◌*◌, ◌≤◌, Bool, true, false, List, [], ◌∷◌, length, refl, sym, ap, subst, ◌∙◌, arith}
 use Rattle.std.proofs.Math.Nat.{mul-suc}
 use Rattle.std.proofs.lemmas.List.Sums.{sum_by-cons}

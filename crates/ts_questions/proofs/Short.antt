@@ -1,4 +1,4 @@
--- Every refusal is short, and what stands before an array.
+-- Error replies and array headers are short.
 use Rattle.std.proofs.Common.{◌<◌, ◌≤◌, ◌^◌, ℕ, length, arith, length-append}
 use Rattle.std.specs.Prelude.{Option, None, Some}
 use Rattle.std.specs.Fmt.{decimal}

@@ -1,4 +1,4 @@
--- The rows of all buckets that a question wants told are those of one walk over its samples, filled in.
+-- The rows of a bucket range are those of one scan over its samples, with the gaps filled.
 use Rattle.std.proofs.Common.{◌≡◌, ℕ, zero, suc, ◌+◌, ◌-◌, ◌<◌, ◌≤◌, max, min, Bool, true, false, ◌&&◌, ◌==◌, List, [], ◌∷◌, map, refl, sym, ◌∙◌, ap, subst, arith, inl, inr, eqb-true}
 use Rattle.std.specs.Prelude.{filter, Option, None, Some, option_map}
 use Rattle.std.specs.List.{All, range_with_len}

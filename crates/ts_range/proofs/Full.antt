@@ -1,4 +1,4 @@
--- More samples change nothing of the rows that a full taker keeps.
+-- Further samples change none of the rows in a full sink.
 use Rattle.std.proofs.Common.{◌≡◌, ℕ, ◌<◌, ◌≤◌, List, [], ◌∷◌, ◌++◌, map, length, sym, ◌∙◌, ap, subst, append_assoc, arith}
 use Rattle.std.specs.Prelude.{Option, None, Some, option_map}
 use Rattle.std.specs.List.{All}

@@ -1,4 +1,4 @@
--- The rows of a line of buckets are those of its buckets with samples, filled in.
+-- The rows of consecutive buckets are those of the non-empty ones, with the gaps filled.
 use Rattle.std.proofs.Common.{◌≡◌, ℕ, zero, suc, ◌+◌, ◌<◌, ◌≤◌, min, Bool, true, false, not, ◌&&◌, ◌==◌, nat_lt, if◌then◌else◌, List, [], ◌∷◌, ◌++◌, map, length, refl, sym, ◌∙◌, ap, subst, arith, inl, inr, lt-ltb, le-ltb, eq-eqb, mul-le-mul_left}
 use Rattle.std.specs.Prelude.{filter}
 use Rattle.std.specs.List.{All, range_with_len}

@@ -1,4 +1,4 @@
--- The rows of the buckets of a list of samples, one bucket after another.
+-- The rows of the buckets of a list of samples, bucket by bucket.
 use Rattle.std.proofs.Common.{◌≡◌, ℕ, ◌<◌, ◌≤◌, Bool, true, false, cond, ◌==◌, List, [], ◌∷◌, ◌++◌, map, refl, ◌∙◌, ap, arith, eq-eqb, ne_eqb, append-nil}
 use Rattle.std.specs.List.{All}
 use Rattle.std.proofs.lemmas.List.{map-append}

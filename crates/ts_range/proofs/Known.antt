@@ -1,4 +1,4 @@
--- What is known before a stretch of buckets, of what lies around the interval.
+-- The last samples before a bucket range, from the samples around the interval.
 use Rattle.std.proofs.Common.{◌≡◌, ℕ, ◌<◌, ◌≤◌, false, max, Bool, ◌&&◌, nat_lt, List, sym, ◌∙◌, ap, arith, inl, inr, lt-ltb, le-ltb}
 use Rattle.std.specs.Option.{option_or}
 use Rattle.std.proofs.lemmas.Bool.{cases_lt}

@@ -1,4 +1,4 @@
--- The rows of all buckets that a question wants told, by the last values of a line.
+-- The rows of a bucket range are its last values.
 use Rattle.std.proofs.Common.{◌≡◌, ℕ, suc, ◌-◌, ◌≤◌, Bool, true, false, ◌==◌, List, [], ◌∷◌, map, refl, sym, ◌∙◌, ap, subst, arith, inl, inr, eq-eqb, ne_eqb}
 use Rattle.std.specs.Prelude.{ℤ, filter, Option, None, Some}
 use Rattle.std.specs.Option.{option_or}

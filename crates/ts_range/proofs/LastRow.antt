@@ -1,4 +1,4 @@
--- A line of buckets that tells last values, sample after sample.
+-- Last values of consecutive buckets, sample by sample.
 use Rattle.std.proofs.Common.{◌≡◌, ℕ, zero, suc, ◌+◌, ◌-◌, ◌<◌, ◌≤◌, Bool, true, false, cond, ◌==◌, nat_lt, List, [], ◌∷◌, ◌++◌, take, length, refl, sym, ◌∙◌, ap, subst, arith, inl, inr, lt-ltb, le-ltb, eq-eqb, ne_eqb, append-nil}
 use Rattle.std.specs.Prelude.{filter, Option, None, Some, option_map, slice_get}
 use Rattle.std.specs.List.{All}

@@ -1,4 +1,4 @@
--- The buckets after that of a time, and the line from it to another time.
+-- The buckets from a time to another.
 use Rattle.std.proofs.Common.{◌≡◌, ℕ, zero, suc, ◌+◌, ◌-◌, ◌*◌, ◌/◌, ◌%◌, ◌<◌, ◌≤◌, inl, inr, [], ◌∷◌, map, refl, sym, ◌∙◌, ap, arith, mul-le-mul_left, mul-suc}
 use Rattle.std.specs.List.{range_with_len}
 use Rattle.std.proofs.lemmas.Bool.{cases_lt}

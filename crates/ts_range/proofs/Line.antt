@@ -1,4 +1,4 @@
--- Buckets that follow one another, by their numbers.
+-- Consecutive buckets by their numbers.
 use Rattle.std.proofs.Common.{◌≡◌, Bool, if◌then◌else◌, ℕ, zero, suc, ◌+◌, ◌-◌, ◌*◌, ◌/◌, ◌≤◌, inl, inr, pos, ◌+ℤ◌, ◌-ℤ◌, [], ◌∷◌, map, ◌∙◌, ap, arith}
 use Rattle.std.specs.Prelude.{ℤ, nat_abs}
 use Rattle.std.specs.List.{range_with_len}

@@ -1,4 +1,4 @@
--- The rows of a line of buckets, with or without samples.
+-- The rows of consecutive buckets, empty or not.
 use Rattle.std.proofs.Common.{◌≡◌, ℕ, ◌+◌, List, [], ◌∷◌, ◌++◌, map, take, refl, ◌∙◌, ap, arith}
 use Rattle.std.specs.Prelude.{Option, Some, slice_get}
 use Rattle.std.proofs.lemmas.List.{length-map, take_more, get_or-map}

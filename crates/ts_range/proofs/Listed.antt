@@ -1,4 +1,4 @@
--- Whether a time is among given ones, in whichever order these stand.
+-- Whether a time is in a list, in any order.
 use Rattle.std.proofs.Common.{◌≡◌, ℕ, ◌-◌, ◌<◌, ◌≤◌, true, false, nat_lt, nat_le, List, length, get_or, sym, ◌∙◌, eqb, arith}
 use Rattle.std.specs.List.Sorted.{IsPermutation, IsNonDecreasing, IsPartitionPoint}
 use Rattle.std.proofs.lemmas.List.Sorted.{list_any-IsPermutation}

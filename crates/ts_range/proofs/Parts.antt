@@ -1,4 +1,4 @@
--- The first rows of a line of buckets, or the last ones, are those of a part of the line.
+-- The first or last rows of consecutive buckets are those of a part of the buckets.
 use Rattle.std.proofs.Common.{◌≡◌, ℕ, zero, suc, ◌+◌, ◌-◌, ◌<◌, ◌≤◌, max, min, Bool, true, false, List, map, take, drop, length, length-drop, reverse, refl, sym, ◌∙◌, ap, arith, inl, inr}
 use Rattle.std.specs.Prelude.{Option, None, Some, slice_get}
 use Rattle.std.specs.List.{range_with_len}

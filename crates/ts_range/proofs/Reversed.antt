@@ -1,4 +1,4 @@
--- Lists that are turned round or cut off.
+-- Reversing lists and cutting them off.
 use Rattle.std.proofs.Common.{◌≡◌, ℕ, zero, suc, List, [], ◌∷◌, ◌++◌, map, take, length, min, ◌<◌, ◌≤◌, ◌⊎◌, inl, inr, refl, sym, ◌∙◌, ap, arith}
 use Rattle.std.specs.Prelude.{reverse, Option, None, Some}
 use Rattle.std.proofs.lemmas.Bool.{cases_lt}

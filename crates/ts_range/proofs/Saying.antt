@@ -1,4 +1,4 @@
--- What the empty buckets of a line say.
+-- The values of empty buckets.
 use Rattle.std.proofs.Common.{◌≡◌, ℕ, suc, ◌+◌, ◌<◌, ◌≤◌, ◌⊎◌, max, Bool, not, ◌&&◌, nat_lt, List, [], ◌∷◌, map, refl, sym, ◌∙◌, ap, arith, inl, inr, lt-ltb, mul-le-mul_left, mul-suc}
 use Rattle.std.specs.Prelude.{ℤ, fold, Option}
 use Rattle.std.specs.Option.{option_or}

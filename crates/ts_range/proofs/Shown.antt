@@ -1,4 +1,4 @@
--- Visitors that samples were shown to, one after another.
+-- Visitors after a list of samples.
 use Rattle.std.proofs.Common.{◌≡◌, ℕ, ◌+◌, ◌≤◌, List, [], ◌∷◌, ◌++◌, length, sym, ◌∙◌, ap, subst, append-nil, append_assoc, arith}
 use Rattle.std.specs.Prelude.{filter}
 use Rattle.ts_spec.specs.Answer.{Row}

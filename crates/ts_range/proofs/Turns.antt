@@ -1,4 +1,4 @@
--- The starts of a line of buckets, by their places.
+-- The starts of consecutive buckets by their index.
 use Rattle.std.proofs.Common.{◌≡◌, ℕ, suc, ◌+◌, ◌-◌, ◌≤◌, map, length, refl, sym, ◌∙◌, ap, arith, List}
 use Rattle.std.specs.Prelude.{Some, slice_get}
 use Rattle.std.specs.List.{range_with_len}

@@ -1,4 +1,4 @@
--- The part of an interval in which samples are let through.
+-- The part of an interval that can contain samples that pass the filters.
 use Rattle.std.proofs.Common.{◌≡◌, ℕ, Bool, false, ◌&&◌, List, [], ◌∷◌, refl, sym, ◌∙◌}
 use Rattle.std.specs.Prelude.{filter, Option, None, Some, IfNone}
 use Rattle.ts_spec.specs.Sample.{Point, is_within, between}

@@ -1,4 +1,4 @@
--- The rows of a question, by what it asks of buckets.
+-- The rows of a query, by its kind of buckets.
 use Rattle.std.proofs.Common.{◌≡◌, ℕ, Bool, true, false, if◌then◌else◌, List, map, refl, sym, ◌∙◌, ap}
 use Rattle.std.specs.Prelude.{◌&&◌, nat_lt, length, filter, reverse, Option, None, Some, option_map}
 use Rattle.std.proofs.lemmas.List.Elements.{filter_agree}
