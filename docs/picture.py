@@ -52,11 +52,11 @@ def axes():
 
 def legend():
     yield f'<circle class="sample" cx="{LEFT + 8}" cy="16" r="3"/>'
-    yield f'<text x="{LEFT + 18}" y="20">a sample each half hour</text>'
+    yield f'<text x="{LEFT + 18}" y="20">a sample per half hour</text>'
     yield f'<line class="average" x1="{LEFT + 196}" y1="16" x2="{LEFT + 220}" y2="16"/>'
-    yield f'<text x="{LEFT + 228}" y="20">averages of two hours</text>'
+    yield f'<text x="{LEFT + 228}" y="20">two-hour averages</text>'
     yield f'<rect class="span" x="{LEFT + 384}" y="10" width="24" height="12"/>'
-    yield f'<text x="{LEFT + 416}" y="20">from the least to the greatest of them</text>'
+    yield f'<text x="{LEFT + 416}" y="20">from minimum to maximum</text>'
 
 
 def drawn(shown):
@@ -66,7 +66,7 @@ def drawn(shown):
     greatest = rows_under("Per two hours: the maximum", shown)
     lines = [
         f'<svg xmlns="http://www.w3.org/2000/svg" viewBox="0 0 {WIDTH} {HEIGHT}" width="{WIDTH}" height="{HEIGHT}">',
-        "<title>Degrees in an attic on one day: samples, averages, the least and the greatest</title>",
+        "<title>Degrees in an attic on one day: samples, averages, minimum and maximum</title>",
         "<style>",
         "text { font: 12px sans-serif; fill: #444 }",
         ".degrees { text-anchor: end } .hours { text-anchor: middle }",
