@@ -2,7 +2,7 @@
 """Draws docs/day.svg: a day of samples with its averages, from the replies in examples/attic.out.
 
     docs/picture.py            writes the picture
-    docs/picture.py --check    says whether the picture that is there is the one that it would write
+    docs/picture.py --check    says whether the existing picture is the one that it would write
 """
 import pathlib
 import re
@@ -21,7 +21,7 @@ LEFT, RIGHT, TOP, BOTTOM = 44, 732, 34, 266
 
 
 def rows_under(heading, shown):
-    """The rows of the answer that is shown under a heading: times with their values."""
+    """The rows of the reply under a heading: times with their values."""
     after = shown.split(f'"{heading}"\n')[1]
     own = after.split('\n"')[0]
     rows = re.findall(r"^ *\d+\) 1\) \(integer\) (\d+)\n +2\) (\S+)$", own, re.MULTILINE)
@@ -37,7 +37,7 @@ def y(value):
 
 
 def steps(rows):
-    """The corners of a line that is level over each bucket."""
+    """The corners of a step line that is level over each bucket."""
     return " ".join(f"{x(time + side)},{y(value)}" for time, value in rows for side in (0, BUCKET))
 
 
@@ -52,21 +52,21 @@ def axes():
 
 def legend():
     yield f'<circle class="sample" cx="{LEFT + 8}" cy="16" r="3"/>'
-    yield f'<text x="{LEFT + 18}" y="20">a sample each half hour</text>'
+    yield f'<text x="{LEFT + 18}" y="20">a sample per half hour</text>'
     yield f'<line class="average" x1="{LEFT + 196}" y1="16" x2="{LEFT + 220}" y2="16"/>'
-    yield f'<text x="{LEFT + 228}" y="20">averages of two hours</text>'
+    yield f'<text x="{LEFT + 228}" y="20">two-hour averages</text>'
     yield f'<rect class="span" x="{LEFT + 384}" y="10" width="24" height="12"/>'
-    yield f'<text x="{LEFT + 416}" y="20">from the least to the greatest of them</text>'
+    yield f'<text x="{LEFT + 416}" y="20">from minimum to maximum</text>'
 
 
 def drawn(shown):
     samples = rows_under("All samples", shown)
-    averages = rows_under("By two hours: the averages that the rule keeps, with those of the open bucket", shown)
-    least = rows_under("By two hours: the least", shown)
-    greatest = rows_under("By two hours: the greatest", shown)
+    averages = rows_under("Per two hours: the averages of the rule, including the open bucket", shown)
+    least = rows_under("Per two hours: the minimum", shown)
+    greatest = rows_under("Per two hours: the maximum", shown)
     lines = [
         f'<svg xmlns="http://www.w3.org/2000/svg" viewBox="0 0 {WIDTH} {HEIGHT}" width="{WIDTH}" height="{HEIGHT}">',
-        "<title>Degrees in an attic on one day: samples, averages, the least and the greatest</title>",
+        "<title>Degrees in an attic on one day: samples, averages, minimum and maximum</title>",
         "<style>",
         "text { font: 12px sans-serif; fill: #444 }",
         ".degrees { text-anchor: end } .hours { text-anchor: middle }",
