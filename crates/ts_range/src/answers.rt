@@ -13,9 +13,10 @@ ghost use Rattle.ts_spec.specs.Answer as spec;
 
 use crate::bucket_range::BucketRange;
 use crate::empty::{are_too_many, before};
+use crate::fill_plan::gap_filling_buckets;
 use crate::filters::Filters;
 use crate::last_values::LastValues;
-use crate::query::{Asked, Buckets, Query, RangeFault, Row, gap_filling_buckets};
+use crate::query::{Asked, Buckets, Query, RangeFault, Row};
 use crate::row_scan::RowScan;
 use crate::row_sinks::{RowList, RowSink};
 use std::alloc::{AllocError, Global};
