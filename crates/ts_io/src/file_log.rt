@@ -8,14 +8,13 @@ ghost use Rattle.ts_io.specs.Logs.{ReadAdvances};
 use crate::store::cut_and_sync;
 use crate::system::{checked, read_retried, write_retried};
 use crate::{Failed, Log};
-use std::fs;
 use std::fs::{File, Metadata, OpenOptions};
-use std::io;
 use std::io::{ErrorKind, Read};
 use std::os::fd::{AsRawFd, RawFd};
 use std::os::unix::fs::{FileExt, MetadataExt};
 use std::path::Path;
 use std::rt::Files;
+use std::{fs, io};
 
 /// A log over a file, which counts its errors. Its content is unknown to the proofs.
 ///

@@ -25,7 +25,11 @@ pub(crate) fn checked<T>(outcome: io::Result<T>, faults: &mut u64) -> Result<T, 
 
 /// Reads once. A read that a signal interrupted is made again, and so is one that ran out of time, where the reader has
 /// a time limit.
-pub(crate) fn read_retried<R: Read>(reader: &mut R, buf: &mut [u8], has_limit: bool) -> io::Result<usize>
+pub(crate) fn read_retried<R: Read>(
+    reader: &mut R,
+    buf: &mut [u8],
+    has_limit: bool,
+) -> io::Result<usize>
     ensures bound { ReadsAtMost result buf.new }
     ensures bytes { ReadConsumes (R.remaining reader.old) (R.remaining reader.new) result buf.new }
 {

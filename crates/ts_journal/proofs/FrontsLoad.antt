@@ -86,7 +86,10 @@ records-load limits bytes m place e only n =
     let front = fronts-load limits bytes m place e n in
     let at : ℕ = front.place in
     let shorter : drop at (take n bytes) ≡ take (n - at) (drop at bytes) =
-    ap (λ (k : ℕ). drop at (take k bytes)) (omega (arith, front.within)) ∙ drop-take at (n - at) bytes in
-    (front.state, at, front.loads
-    ∙ by-rest (take n bytes) (Loads front.state at) front.state at true refl
-    (ap begins_as_record shorter ∙ front-begins (n - at) (drop at bytes) (only at front.state front.whole)))
+    ap (λ (k : ℕ). drop at (take k bytes)) (omega (arith, front.within)) ∙ drop-take at (n - at) bytes in (
+      front.state,
+      at,
+      front.loads
+          ∙ by-rest (take n bytes) (Loads front.state at) front.state at true refl
+          (ap begins_as_record shorter ∙ front-begins (n - at) (drop at bytes) (only at front.state front.whole)),
+    )

@@ -185,9 +185,9 @@ begun-before limits bytes more at e less =
     let ended : ending_of (stream_at limits 0 head) ≡ Ended = ap ending_of front ∙ finished-ended (stream_at limits 0 (bytes ++ more)) at e in
     let size : 0 + length head ≡ at = omega (arith, length-take-le at bytes few) in
     let onward : (rest : List ℕ) → ending_of (stream_at limits 0 (head ++ rest)) ≡ ending_of (stream_at limits at rest) = λ rest.
-        ap ending_of (concatenated limits 0 0 Start head rest refl ended)
-        ∙ ending-continued (stream_at limits 0 head) (stream_at limits (0 + length head) rest) ended
-        ∙ ap (λ (n : ℕ). ending_of (stream_at limits n rest)) size in
+    ap ending_of (concatenated limits 0 0 Start head rest refl ended)
+    ∙ ending-continued (stream_at limits 0 head) (stream_at limits (0 + length head) rest) ended
+    ∙ ap (λ (n : ℕ). ending_of (stream_at limits n rest)) size in
     let split : head ++ (tail ++ more) ≡ bytes ++ more = sym (append_assoc head tail more) ∙ ap (λ (l : List ℕ). l ++ more) (take-append-drop at bytes) in
     let later : ending_of (stream_at limits at (tail ++ more)) ≡ Inside at =
     sym (onward (tail ++ more)) ∙ ap (λ (l : List ℕ). ending_of (stream_at limits 0 l)) split ∙ e in
