@@ -13,7 +13,7 @@ use Rattle.ts_spec.specs.declared.limits.Limits.{Limits}
 use Rattle.ts_spec.specs.declared.wire.WireLimits.{WireLimits}
 use Rattle.ts_db.specs.DbState.{DbState, DbView, Simulates}
 use Rattle.ts_journal.specs.Limits.{journal_limits}
-use Rattle.ts_journal.specs.Loading.{Loads, BreaksAt, begins_as_record, unless_foreign, load_on, load_from}
+use Rattle.ts_journal.specs.Loading.{Loads, BreaksAt, begins_as_record, unless_foreign, load_on}
 use Rattle.ts_journal.proofs.Loads.{loads-end}
 use Rattle.ts_journal.proofs.Rests.{by-rest, loads-alone, rest-before, rest-among}
 use Rattle.ts_journal.proofs.Unfinished.{begun-before}

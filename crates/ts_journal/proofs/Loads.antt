@@ -9,7 +9,7 @@ use Rattle.ts_spec.specs.State.{State, empty}
 use Rattle.ts_spec.specs.Wire.{Request, Stream, Then, Ended, Inside, Broken, Start, stream_at, ending_of}
 use Rattle.ts_spec.proofs.Concatenation.{concatenated}
 use Rattle.ts_journal.specs.Limits.{journal_limits}
-use Rattle.ts_journal.specs.Loading.{Load, Loads, apply_recorded_request, continue_or_break, unless_foreign, load_on, load, LoadsTo}
+use Rattle.ts_journal.specs.Loading.{Load, Loads, apply_recorded_request, continue_or_break, load_on, load, LoadsTo}
 use Rattle.ts_journal.proofs.Rests.{rest-of}
 use Rattle.ts_journal.proofs.Unfinished.{unfinished}
 
