@@ -1,5 +1,5 @@
 // Loads a journal.
-ghost use Rattle.std.specs.Prelude.{◌≡◌, ◌≢◌, ℕ, ⊤, ◌+◌, ◌<◌, ◌≤◌, ◌^◌, true, List, [], length, None, Some};
+ghost use Rattle.std.specs.Prelude.{◌≡◌, ◌≢◌, ℕ, ⊤, ◌+◌, ◌<◌, ◌≤◌, ◌^◌, true, List, [], length, drop, None, Some};
 ghost use Rattle.std.specs.Io.KnownBytes.{IsAtEnd};
 ghost use Rattle.ts_io.specs.Causes.{Rose};
 ghost use Rattle.ts_io.specs.Logs.{unread, place_after};
@@ -8,7 +8,8 @@ ghost use Rattle.ts_db.specs.DbState.{Simulates};
 ghost use Rattle.ts_journal.specs.Limits.{IsBounded};
 ghost use Rattle.ts_execution.specs.Limits.{CanRead};
 ghost use Rattle.ts_execution.specs.JournalReplay.{LoadsIf, IsCurrent, ReplaysPiece, IfRead, IsLoaded, IsJudged};
-ghost use Rattle.ts_execution.specs.JournalReplay.{EndsWithin, verdict};
+ghost use Rattle.ts_execution.specs.JournalReplay.{EndsWithin, still_record, verdict};
+ghost use Rattle.ts_journal.specs.Loading.{begins_as_record};
 
 use crate::next_change::{NextChange, next_change};
 use std::alloc::Global;
@@ -93,10 +94,18 @@ pub fn load<J: Log>(
     };
     let mut buffer = [0; PIECE];
     let mut taken = 0;
+    let mut is_record = true;
     while taken < budget {
         let most = (budget - taken).min(PIECE as u64) as usize;
-        match read_piece(&mut loading, db, log, &mut buffer[..most]) {
-            Piece::Read(0) => return loading.verdict(taken),
+        match read_piece(
+            &mut loading,
+            db,
+            log,
+            &mut buffer[..most],
+            taken,
+            &mut is_record,
+        ) {
+            Piece::Read(0) => return loading.verdict(taken, is_record),
             Piece::Read(count) => taken += count as u64,
             Piece::Fault => return Loaded::Fault,
             Piece::Memory => return Loaded::Memory,
@@ -105,12 +114,20 @@ pub fn load<J: Log>(
     Loaded::Budget
 }
 
-// Reads one piece and replays the changes that it completes, unless the journal has already broken.
-fn read_piece<J: Log>(loading: &mut Loading, db: &mut Db, log: &mut J, buffer: &mut [u8]) -> Piece
+// Reads one piece, at offset `taken`, and replays the changes that it completes, unless the journal has already broken.
+// Updates whether the unfinished request begins as a record does.
+fn read_piece<J: Log>(
+    loading: &mut Loading,
+    db: &mut Db,
+    log: &mut J,
+    buffer: &mut [u8],
+    taken: u64,
+    is_record: &mut bool,
+) -> Piece
     requires within { fed loading.old.reader + length buffer.old < 2 ^ 64 }
     requires room { 0 < length buffer.old }
     ensures takes { IfRead result
-        (λ count. ReplaysPiece count (unread (J.content log.old) (J.place log.old))
+        (λ count. ReplaysPiece taken count is_record.old is_record.new (unread (J.content log.old) (J.place log.old))
         (unread (J.content log.new) (J.place log.new))
         loading.old loading.new db.old db.new) }
     ensures carries { Simulates db.old db.new (λ from to. ⊤) }
@@ -125,6 +142,8 @@ fn read_piece<J: Log>(loading: &mut Loading, db: &mut Db, log: &mut J, buffer: &
     match log.read(buffer) {
         Ok(count) => {
             if loading.replay_piece::<Brand>(db, &buffer[..count], Blank::new(1)) {
+                let begin = loading.reader.place();
+                *is_record = still_record(*is_record, begin, taken, &buffer[..count]);
                 Piece::Read(count)
             } else {
                 Piece::Memory
@@ -134,14 +153,40 @@ fn read_piece<J: Log>(loading: &mut Loading, db: &mut Db, log: &mut J, buffer: &
     }
 }
 
+// Whether the request that begins at this offset begins as a record does, after a piece at offset `before`. `was` tells
+// it of the bytes before.
+fn still_record(was: bool, begin: Option<u64>, before: u64, piece: &[u8]) -> bool
+    ensures { result ≡ still_record was begin before piece.now }
+{
+    match begin {
+        Some(at) if before <= at => begins_as_record(piece, at - before),
+        _ => was,
+    }
+}
+
+// Whether a record may begin at this offset of the piece: there is a `*`, or the piece ends before it.
+#[tactic(auto, using(crate::proofs::RestBytes::begins_past, crate::proofs::RestBytes::begins_at))]
+fn begins_as_record(piece: &[u8], at: u64) -> bool
+    ensures { result ≡ begins_as_record (drop at piece.now) }
+{
+    if piece.len() as u64 <= at {
+        return true;
+    }
+    piece[at as usize] == b'*'
+}
+
 impl Loading {
-    // The result, if the journal ends after `taken` bytes.
-    fn verdict(&self, taken: u64) -> Loaded
-        ensures { result ≡ verdict self.now taken }
+    // The result, if the journal ends after `taken` bytes. An unfinished request that no record begins with breaks it.
+    fn verdict(&self, taken: u64, is_record: bool) -> Loaded
+        ensures { result ≡ verdict self.now is_record taken }
     {
         match self.broken {
             Some(place) => Loaded::Broken(place),
-            None => Loaded::Whole(self.reader.place().unwrap_or(taken)),
+            None => match self.reader.place() {
+                None => Loaded::Whole(taken),
+                Some(place) if is_record => Loaded::Whole(place),
+                Some(place) => Loaded::Broken(place),
+            },
         }
     }
 

@@ -8,3 +8,4 @@ pub mod Links
 pub mod Logs
 pub mod Sinks
 pub mod Sources
+pub mod System

@@ -1,18 +1,20 @@
 // A log over a file.
-ghost use Rattle.std.specs.Prelude.{◌≡◌, ◌<◌, ◌≤◌, None, length, IfOk, OnOk, OnErr};
+ghost use Rattle.std.specs.Prelude.{◌≡◌, ◌<◌, ◌≤◌, None, pos, int_le, length, IfOk, OnOk, OnErr};
 ghost use Rattle.std.specs.Io.{ReadsAtMost, WritesAtMost};
 ghost use Rattle.ts_io.specs.Adapters.{failed_log_calls_of, log_position_of};
 ghost use Rattle.ts_io.specs.Causes.{HasCause, saturating_succ};
 ghost use Rattle.ts_io.specs.Logs.{ReadAdvances};
 
-use crate::failed::count_failure;
+use crate::store::cut_and_sync;
+use crate::system::{checked, read_retried, write_retried};
 use crate::{Failed, Log};
-use std::fs::{File, OpenOptions};
-use std::io;
-use std::io::{ErrorKind, Write};
-use std::os::fd::AsRawFd;
-use std::os::unix::fs::FileExt;
+use std::fs::{File, Metadata, OpenOptions};
+use std::io::{ErrorKind, Read};
+use std::os::fd::{AsRawFd, RawFd};
+use std::os::unix::fs::{FileExt, MetadataExt};
+use std::path::Path;
 use std::rt::Files;
+use std::{fs, io};
 
 /// A log over a file, which counts its errors. Its content is unknown to the proofs.
 ///
@@ -24,6 +26,19 @@ pub struct FileLog<R> {
     file: Option<File>,
     place: u64,
     faults: u64,
+}
+
+// A file that is read from this position.
+#[derive(Drop)]
+struct FileAt<'a> {
+    file: &'a File,
+    place: u64,
+}
+
+impl Read for FileAt<'_> {
+    fn read(&mut self, buf: &mut [u8]) -> io::Result<usize> {
+        self.file.read_at(buf, self.place)
+    }
 }
 
 impl<R: Files<File = File>> FileLog<R> {
@@ -49,8 +64,34 @@ impl<R: Files<File = File>> FileLog<R> {
             .create(true)
             .open(&self.rt, name)?;
         let file = above_standard_streams(file)?;
+        let opened = file.metadata()?;
+        if !opened.is_file() {
+            return Err(io::Error::from(ErrorKind::InvalidInput));
+        }
         file.try_lock()?;
+        self.check_name(name, &opened)?;
+        if file.metadata()?.len() == 0 {
+            self.sync_name(name)?;
+        }
         Ok(file)
+    }
+
+    // Fails unless the name still leads to the opened file: before it was locked, another program may have replaced it.
+    fn check_name(&self, name: &str, opened: &Metadata) -> io::Result<()> {
+        let named = fs::metadata(&self.rt, name)?;
+        if named.dev() != opened.dev() || named.ino() != opened.ino() {
+            return Err(io::Error::from(ErrorKind::NotFound));
+        }
+        Ok(())
+    }
+
+    // Syncs the folder of a new file, so that its name outlives a power failure.
+    fn sync_name(&self, name: &str) -> io::Result<()> {
+        let folder = match Path::new(name).parent() {
+            Some(folder) if !folder.as_str().is_empty() => folder.as_str(),
+            _ => ".",
+        };
+        File::open(&self.rt, folder)?.sync_all()
     }
 
     // The open file.
@@ -64,16 +105,16 @@ impl<R: Files<File = File>> FileLog<R> {
     fn read_once(&self, buf: &mut [u8]) -> io::Result<usize>
         ensures { ReadsAtMost result buf.new }
     {
-        self.file()?.read_at(buf, self.place)
+        let mut file = FileAt {
+            file: self.file()?,
+            place: self.place,
+        };
+        read_retried(&mut file, buf, false)
     }
 
-    // Never extends a shorter file.
-    fn cut_and_sync(&self, len: u64) -> io::Result<()> {
-        let file = self.file()?;
-        if len < file.metadata()?.len() {
-            file.set_len(len)?;
-        }
-        file.sync_data()
+    fn cut_file(&self, len: u64) -> io::Result<()> {
+        let mut file = self.file()?;
+        cut_and_sync(&mut file, len)
     }
 
     // Writes once. Writing no byte is an error.
@@ -82,7 +123,7 @@ impl<R: Files<File = File>> FileLog<R> {
         ensures progress { 0 < length bytes.now → IfOk result (λ n. 0 < n) }
     {
         let mut file = self.file()?;
-        match file.write(bytes) {
+        match write_retried(&mut file, bytes) {
             Ok(0) if !bytes.is_empty() => Err(io::Error::from(ErrorKind::WriteZero)),
             outcome => outcome,
         }
@@ -96,8 +137,9 @@ impl<R: Files<File = File>> Log for FileLog<R> {
 
     ghost faults = { failed_log_calls_of };
 
-    /// Opens and locks the file, creating it if it does not exist. The file that was open is closed first. Fails
-    /// without changing the file if another log has it open.
+    /// Opens and locks the file, creating it if it does not exist. The file that was open is closed first. A new file's
+    /// name is synced in its folder. Fails without changing the file if another log has it open, if it is not a regular
+    /// file, or if the name no longer leads to it.
     fn open(&mut self, name: &str) -> Result<(), Failed>
         ensures start { OnOk result (log_position_of self.new ≡ 0) }
         ensures failed { OnErr result (log_position_of self.new ≡ log_position_of self.old) }
@@ -105,14 +147,10 @@ impl<R: Files<File = File>> Log for FileLog<R> {
         ensures err { OnErr result (failed_log_calls_of self.new ≡ saturating_succ (failed_log_calls_of self.old)) }
     {
         self.file = None;
-        match self.open_locked(name) {
-            Ok(file) => {
-                self.file = Some(file);
-                self.place = 0;
-                Ok(())
-            }
-            Err(_) => Err(count_failure(&mut self.faults)),
-        }
+        let file = checked(self.open_locked(name), &mut self.faults)?;
+        self.file = Some(file);
+        self.place = 0;
+        Ok(())
     }
 
     /// Fails if no file is open.
@@ -122,13 +160,9 @@ impl<R: Files<File = File>> Log for FileLog<R> {
         ensures cause { HasCause (failed_log_calls_of self.old) (failed_log_calls_of self.new) result }
         ensures err { OnErr result (failed_log_calls_of self.new ≡ saturating_succ (failed_log_calls_of self.old)) }
     {
-        match self.read_once(buf) {
-            Ok(count) => {
-                self.place = self.place.saturating_add(count as u64);
-                Ok(count)
-            }
-            Err(_) => Err(count_failure(&mut self.faults)),
-        }
+        let count = checked(self.read_once(buf), &mut self.faults)?;
+        self.place = self.place.saturating_add(count as u64);
+        Ok(count)
     }
 
     /// Returns `Ok` once the system reports that the remaining content is on disk. If the cut succeeds and that report
@@ -139,10 +173,7 @@ impl<R: Files<File = File>> Log for FileLog<R> {
         ensures cause { HasCause (failed_log_calls_of self.old) (failed_log_calls_of self.new) result }
         ensures err { OnErr result (failed_log_calls_of self.new ≡ saturating_succ (failed_log_calls_of self.old)) }
     {
-        match self.cut_and_sync(len) {
-            Ok(()) => Ok(()),
-            Err(_) => Err(count_failure(&mut self.faults)),
-        }
+        checked(self.cut_file(len), &mut self.faults)
     }
 
     /// Makes one write call. Fails if no file is open.
@@ -153,18 +184,22 @@ impl<R: Files<File = File>> Log for FileLog<R> {
         ensures cause { HasCause (failed_log_calls_of self.old) (failed_log_calls_of self.new) result }
         ensures err { OnErr result (failed_log_calls_of self.new ≡ saturating_succ (failed_log_calls_of self.old)) }
     {
-        match self.write_once(bytes) {
-            Ok(count) => Ok(count),
-            Err(_) => Err(count_failure(&mut self.faults)),
-        }
+        checked(self.write_once(bytes), &mut self.faults)
     }
 }
 
 // Duplicates the file if its descriptor is that of a standard stream. If such a stream was closed, the system gives its
 // descriptor to the next file opened, and later writes to the stream would go into that file.
 fn above_standard_streams(file: File) -> io::Result<File> {
-    if file.as_raw_fd() <= 2 {
+    if is_standard(file.as_raw_fd()) {
         return file.try_clone();
     }
     Ok(file)
+}
+
+// Whether this is the descriptor of standard input, output or error.
+fn is_standard(descriptor: RawFd) -> bool
+    ensures { result ≡ int_le descriptor (pos 2) }
+{
+    descriptor <= 2
 }

@@ -38,6 +38,8 @@ fn a_file_is_a_log_for_one_at_a_time(rt: HostRuntime) -> Result<(), Fail> {
     let mut buf = [0; 4];
     let mut log = FileLog::new(&rt);
     assert!(rt; append_all_counted(&mut log, b"abc") == Err(Failed));
+    assert!(rt; log.cut(0) == Err(Failed));
+    assert!(rt; read_log(&mut log, &mut buf) == Err(Failed));
     assert!(rt; log.open(name) == Ok(()));
     assert!(rt; read_log(&mut log, &mut buf) == Ok(0));
     assert!(rt; append_all_counted(&mut log, b"abcdef") == Ok(()));
@@ -68,4 +70,12 @@ fn a_file_is_a_log_for_one_at_a_time(rt: HostRuntime) -> Result<(), Fail> {
     assert!(rt; buf == *b"abxy");
     fs::remove_file(&rt, name)?;
     Ok(())
+}
+
+#[test]
+fn a_log_is_a_regular_file(rt: HostRuntime) {
+    let mut log = FileLog::new(&rt);
+    assert!(rt; log.open("/dev/null") == Err(Failed));
+    assert!(rt; log.open(".") == Err(Failed));
+    assert!(rt; log.open("no/such/folder/some.log") == Err(Failed));
 }
