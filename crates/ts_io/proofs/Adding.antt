@@ -1,6 +1,8 @@
 -- What a log has after several appends.
-use Rattle.std.proofs.Common.{◌≡◌, ℕ, ◌+◌, ◌-◌, ◌≤◌, List, [], ◌++◌, length, take, drop, Option, None, Some, refl, sym, ◌∙◌, ap, append_assoc, append-nil}
-use Rattle.std.proofs.lemmas.List.{take_all}
+use Rattle.std.proofs.Common.{◌≡◌, ℕ, ◌+◌, ◌-◌, ◌≤◌, List, [], ◌++◌, length, take, drop, Option, None, Some, refl, sym, ◌∙◌, ap, append_assoc, append-nil, arith}
+use Rattle.std.proofs.lemmas.List.{take_all, length-append}
+use Rattle.std.proofs.Math.Seq.{take-append-add}
+use Rattle.ts_io.specs.Logs.{AppendsPrefix}
 use Rattle.std.specs.Io.KnownBytes.{append_known}
 use Rattle.ts_io.proofs.Growth.{front_on}
 
@@ -24,3 +26,14 @@ adds_on old mid new n m bytes had le added =
 -- everything was appended
 pub adds_all : (old new : Option (List ℕ)) (n : ℕ) (bytes : List ℕ) → length bytes ≤ n → new ≡ append_known old (take n bytes) → new ≡ append_known old bytes
 adds_all old new n bytes le added = added ∙ ap (λ (l : List ℕ). append_known old l) (take_all n bytes le)
+
+-- all of the first bytes were appended, then a prefix of the second ones
+pub adds_after : (old mid new : Option (List ℕ)) (first second : List ℕ) → mid ≡ append_known old first → AppendsPrefix mid new second → AppendsPrefix old new (first ++ second)
+adds_after old mid new first second had adds = record {
+  len = length first + adds.len;
+  within = omega (arith, adds.within, length-append first second);
+  added = adds.added
+      ∙ ap (λ (o : Option (List ℕ)). append_known o (take adds.len second)) had
+      ∙ adds_twice old first (take adds.len second)
+      ∙ ap (λ (l : List ℕ). append_known old l) (sym (take-append-add first second adds.len));
+}

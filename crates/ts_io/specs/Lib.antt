@@ -4,8 +4,11 @@ pub mod Calls
 pub mod Causes
 pub mod Clocks
 pub mod Counts
+pub mod Gathering
+pub mod Hubs
 pub mod Links
 pub mod Logs
+pub mod Pieces
 pub mod Sinks
 pub mod Sources
 pub mod System

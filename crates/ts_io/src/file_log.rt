@@ -117,6 +117,10 @@ impl<R: Files<File = File>> FileLog<R> {
         cut_and_sync(&mut file, len)
     }
 
+    fn sync_once(&self) -> io::Result<()> {
+        self.file()?.sync_data()
+    }
+
     // Writes once. Writing no byte is an error.
     fn write_once(&self, bytes: &[u8]) -> io::Result<usize>
         ensures bound { WritesAtMost result bytes.now }
@@ -185,6 +189,18 @@ impl<R: Files<File = File>> Log for FileLog<R> {
         ensures err { OnErr result (failed_log_calls_of self.new ≡ saturating_succ (failed_log_calls_of self.old)) }
     {
         checked(self.write_once(bytes), &mut self.faults)
+    }
+
+    /// Returns `Ok` once the system reports that the content is on disk. Fails if no file is open.
+    fn sync(&mut self) -> Result<(), Failed>
+        ensures place { log_position_of self.new ≡ log_position_of self.old }
+        ensures cause { HasCause (failed_log_calls_of self.old) (failed_log_calls_of self.new) result }
+        ensures err { OnErr result (failed_log_calls_of self.new ≡ saturating_succ (failed_log_calls_of self.old)) }
+    {
+        match self.sync_once() {
+            Ok(()) => Ok(()),
+            Err(_) => Err(count_failure(&mut self.faults)),
+        }
     }
 }
 

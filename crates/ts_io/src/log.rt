@@ -53,6 +53,12 @@ pub trait Log {
         ensures bytes { AppendGrows (content self.old) (content self.new) result bytes.now }
         ensures place { place self.new ≡ place self.old }
         ensures cause { HasCause (faults self.old) (faults self.new) result };
+
+    /// Returns `Ok` once the device reports that the content survives a crash of the system.
+    fn sync(&mut self) -> Result<(), Failed>
+        ensures content { content self.new ≡ content self.old }
+        ensures place { place self.new ≡ place self.old }
+        ensures cause { HasCause (faults self.old) (faults self.new) result };
 }
 
 /// Appends all of `bytes`, in as many calls as needed. Stops at the first call that fails.

@@ -29,7 +29,7 @@ impl Model for MemLog {
 }
 
 impl MemLog {
-    /// Creates a log with this content, at its start. A call of any of the four methods fails if its number, counted
+    /// Creates a log with this content, at its start. A call of any of the five methods fails if its number, counted
     /// from 1, is in `fail`.
     pub fn new(content: Vec<u8>, fail: Vec<u64>) -> Self
         ensures content { result.content ≡ content.items }
@@ -127,5 +127,16 @@ impl Log for MemLog {
             Ok(()) => Ok(bytes.len()),
             Err(_) => Err(self.schedule.fault()),
         }
+    }
+
+    /// Counts as a call, and changes nothing.
+    fn sync(&mut self) -> Result<(), Failed>
+        ensures content { self.new.content ≡ self.old.content }
+        ensures place { self.new.place ≡ self.old.place }
+        ensures cause { HasCause self.old.calls.failed self.new.calls.failed result }
+        ensures calls { self.new.calls ≡ after_call self.old.calls (is_err result) }
+        ensures fails { IsErr result ↔ Contains self.old.calls.to_fail (next_call_number self.old.calls) }
+    {
+        self.schedule.call()
     }
 }

@@ -4,7 +4,7 @@ ghost use Rattle.std.specs.Prelude.{◌≡◌, ◌==◌, ◌≤◌, ◌^◌, [],
 use std::alloc::Global;
 use std::marker::Model;
 
-/// The capacity of the queue: 64 MiB.
+/// The most bytes that may wait before others are queued: 64 MiB.
 const MAX_WAITING_BYTES: usize = 67_108_864;
 
 /// The largest buffer that an empty queue keeps, in bytes.
@@ -14,7 +14,7 @@ const MAX_IDLE_BYTES: usize = 65536;
 #[derive(Clone, Copy)]
 pub struct Full;
 
-/// A queue of bytes to send, at most 64 MiB.
+/// A queue of bytes to send. It takes more while at most 64 MiB wait.
 #[derive(Drop)]
 pub struct Waiting {
     bytes: Vec<u8>,
@@ -64,13 +64,13 @@ impl Waiting {
         &self.bytes[self.sent..]
     }
 
-    /// Appends these bytes. Fails without a change if the queue would exceed 64 MiB or memory runs out.
+    /// Appends these bytes. Fails without a change if more than 64 MiB wait already or memory runs out.
     pub fn push(&mut self, bytes: &[u8]) -> Result<(), Full>
         ensures all { OnOk result (self.new ≡ self.old ++ bytes.now) }
-        ensures limit { OnOk result (length self.new ≤ 2 ^ 26) }
+        ensures limit { OnOk result (length self.old ≤ 2 ^ 26) }
         ensures unchanged { OnErr result (self.new ≡ self.old) }
     {
-        if self.len().saturating_add(bytes.len()) > MAX_WAITING_BYTES {
+        if self.len() > MAX_WAITING_BYTES {
             return Err(Full);
         }
         if self.sent >= self.len() {
