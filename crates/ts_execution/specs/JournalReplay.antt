@@ -22,8 +22,8 @@ use Rattle.ts_execution.specs.declared.journal_replay.ReplayResult.{ReplayResult
 use Rattle.ts_execution.specs.declared.journal_replay.ReplayResult.TheVariants as replay_result
 use Rattle.ts_execution.specs.declared.next_change.NextChange.{NextChange}
 use Rattle.ts_execution.specs.declared.next_change.NextChange.TheVariants as found
-use Rattle.ts_execution.specs.declared.loading.Piece.{Piece}
-use Rattle.ts_execution.specs.declared.loading.Piece.TheVariants as piece
+use Rattle.ts_execution.specs.declared.journal_piece.Piece.{Piece}
+use Rattle.ts_execution.specs.declared.journal_piece.Piece.TheVariants as piece
 use Rattle.ts_execution.specs.declared.loading.Loaded.{Loaded}
 use Rattle.ts_execution.specs.declared.loading.Loaded.TheVariants as loaded
 use Rattle.ts_execution.specs.declared.loading.Loading.{Loading}

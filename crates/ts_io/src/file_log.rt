@@ -1,20 +1,19 @@
 // A log over a file.
-ghost use Rattle.std.specs.Prelude.{◌≡◌, ◌<◌, ◌≤◌, None, pos, int_le, length, IfOk, OnOk, OnErr};
+ghost use Rattle.std.specs.Prelude.{◌≡◌, ◌<◌, ◌≤◌, None, length, IfOk, OnOk, OnErr};
 ghost use Rattle.std.specs.Io.{ReadsAtMost, WritesAtMost};
 ghost use Rattle.ts_io.specs.Adapters.{failed_log_calls_of, log_position_of};
 ghost use Rattle.ts_io.specs.Causes.{HasCause, saturating_succ};
 ghost use Rattle.ts_io.specs.Logs.{ReadAdvances};
 
+use crate::locked_file::open_locked;
 use crate::store::cut_and_sync;
 use crate::system::{checked, read_retried, write_retried};
 use crate::{Failed, Log};
-use std::fs::{File, Metadata, OpenOptions};
+use std::fs::File;
+use std::io;
 use std::io::{ErrorKind, Read};
-use std::os::fd::{AsRawFd, RawFd};
-use std::os::unix::fs::{FileExt, MetadataExt};
-use std::path::Path;
+use std::os::unix::fs::FileExt;
 use std::rt::Files;
-use std::{fs, io};
 
 /// A log over a file, which counts its errors. Its content is unknown to the proofs.
 ///
@@ -54,44 +53,6 @@ impl<R: Files<File = File>> FileLog<R> {
             place: 0,
             faults: 0,
         }
-    }
-
-    // Opens and locks the file, creating it if it does not exist. All writes go to its end.
-    fn open_locked(&self, name: &str) -> io::Result<File> {
-        let file = OpenOptions::new()
-            .read(true)
-            .append(true)
-            .create(true)
-            .open(&self.rt, name)?;
-        let file = above_standard_streams(file)?;
-        let opened = file.metadata()?;
-        if !opened.is_file() {
-            return Err(io::Error::from(ErrorKind::InvalidInput));
-        }
-        file.try_lock()?;
-        self.check_name(name, &opened)?;
-        if file.metadata()?.len() == 0 {
-            self.sync_name(name)?;
-        }
-        Ok(file)
-    }
-
-    // Fails unless the name still leads to the opened file: before it was locked, another program may have replaced it.
-    fn check_name(&self, name: &str, opened: &Metadata) -> io::Result<()> {
-        let named = fs::metadata(&self.rt, name)?;
-        if named.dev() != opened.dev() || named.ino() != opened.ino() {
-            return Err(io::Error::from(ErrorKind::NotFound));
-        }
-        Ok(())
-    }
-
-    // Syncs the folder of a new file, so that its name outlives a power failure.
-    fn sync_name(&self, name: &str) -> io::Result<()> {
-        let folder = match Path::new(name).parent() {
-            Some(folder) if !folder.as_str().is_empty() => folder.as_str(),
-            _ => ".",
-        };
-        File::open(&self.rt, folder)?.sync_all()
     }
 
     // The open file.
@@ -151,7 +112,7 @@ impl<R: Files<File = File>> Log for FileLog<R> {
         ensures err { OnErr result (failed_log_calls_of self.new ≡ saturating_succ (failed_log_calls_of self.old)) }
     {
         self.file = None;
-        let file = checked(self.open_locked(name), &mut self.faults)?;
+        let file = checked(open_locked(&self.rt, name), &mut self.faults)?;
         self.file = Some(file);
         self.place = 0;
         Ok(())
@@ -197,25 +158,6 @@ impl<R: Files<File = File>> Log for FileLog<R> {
         ensures cause { HasCause (failed_log_calls_of self.old) (failed_log_calls_of self.new) result }
         ensures err { OnErr result (failed_log_calls_of self.new ≡ saturating_succ (failed_log_calls_of self.old)) }
     {
-        match self.sync_once() {
-            Ok(()) => Ok(()),
-            Err(_) => Err(count_failure(&mut self.faults)),
-        }
+        checked(self.sync_once(), &mut self.faults)
     }
-}
-
-// Duplicates the file if its descriptor is that of a standard stream. If such a stream was closed, the system gives its
-// descriptor to the next file opened, and later writes to the stream would go into that file.
-fn above_standard_streams(file: File) -> io::Result<File> {
-    if is_standard(file.as_raw_fd()) {
-        return file.try_clone();
-    }
-    Ok(file)
-}
-
-// Whether this is the descriptor of standard input, output or error.
-fn is_standard(descriptor: RawFd) -> bool
-    ensures { result ≡ int_le descriptor (pos 2) }
-{
-    descriptor <= 2
 }

@@ -1,5 +1,5 @@
-//! Devices: the traits of byte sources, sinks, logs, clocks, listeners and hubs, which count their faults; devices in memory,
-//! whose failures are chosen beforehand; and adapters over std's readers, writers, files, clock and network.
+//! Devices: the traits of byte sources, sinks, logs, clocks, listeners and hubs, which count their faults; devices in
+//! memory, whose failures are chosen beforehand; and adapters over std's readers, writers, files, clock and network.
 //!
 //! Counts of calls and faults are `u64` and stop at 18446744073709551615. The calls of a device in memory are numbered
 //! from 1; from that number on, every call has it.
@@ -14,6 +14,7 @@ mod file_log;
 mod gathered;
 mod hub;
 mod listener;
+mod locked_file;
 mod log;
 mod mem_hub;
 mod mem_listener;

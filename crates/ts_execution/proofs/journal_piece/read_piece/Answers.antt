@@ -2,7 +2,7 @@ use Rattle.std.proofs.Common.{take, sym, ap, ◌∙◌, arith}
 use Rattle.ts_execution.proofs.Carried.{carries_as}
 use Rattle.ts_execution.proofs.Loadings.{loads-done}
 use Rattle.ts_execution.specs.JournalReplay.{still_record}
-use Rattle.ts_execution.proofs.loading.read_piece.Goals as goal
+use Rattle.ts_execution.proofs.journal_piece.read_piece.Goals as goal
 
 pub returns-then-replay_piece-clause-takes : goal.returns-then-replay_piece-clause-takes
 returns-then-replay_piece-clause-takes g c = record {
