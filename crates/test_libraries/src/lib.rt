@@ -15,6 +15,8 @@ mod group;
 #[cfg(test)]
 mod multi;
 #[cfg(test)]
+mod mux;
+#[cfg(test)]
 mod range;
 #[cfg(test)]
 mod resp;

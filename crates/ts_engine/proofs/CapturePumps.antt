@@ -9,7 +9,6 @@ use Rattle.ts_db.specs.DbState.{DbState}
 use Rattle.ts_mux.specs.Capture.{Capture, capture, frames_of, ending_of}
 use Rattle.ts_mux.specs.Framing.{unfinished, ended_at}
 use Rattle.ts_mux.specs.Order.{closing}
-use Rattle.ts_mux.proofs.FramesWithin.{frames-within}
 use Rattle.ts_execution.specs.Handling.{World}
 use Rattle.ts_engine.specs.declared.capture_session.CaptureGo.{CaptureGo}
 use Rattle.ts_engine.specs.declared.capture_session.CaptureGo.TheVariants as capture_go
@@ -37,7 +36,7 @@ so_far_none limits r held readings left has begins = record {
   count = refl;
   took = Consumes-nil left;
   went = went_none (beginning limits (record { held = held; readings = readings })) (capture_progress r held readings) has []
-      (λ more. sym (begins.coming (frames_of (capture more)) (frames-within more)) ∙ ap (λ (rest : Capture). coming r (frames_of rest)) (sym (begins.capture more)))
+      (λ more. sym (begins.coming (frames_of (capture more))) ∙ ap (λ (rest : Capture). coming r (frames_of rest)) (sym (begins.capture more)))
       (λ more. ap ending_of (sym (begins.capture more))) refl;
 }
 

@@ -1,11 +1,11 @@
 -- What a capture session shows: the items that its readers still yield.
-use Rattle.std.specs.Prelude.{◌≡◌, ℕ, List, [], length, All, Option}
+use Rattle.std.specs.Prelude.{◌≡◌, ℕ, List, [], length, Option}
 use Rattle.ts_spec.specs.Run.{is_quit}
 use Rattle.ts_spec.specs.declared.wire.WireLimits.{WireLimits}
 use Rattle.ts_db.specs.DbState.{DbState}
 use Rattle.ts_mux.specs.declared.frame.Frame.{Frame}
 use Rattle.ts_mux.specs.Capture.{capture, frames_of, ending_of}
-use Rattle.ts_mux.specs.Framing.{Framing, IsFrame, capture_of, fed, unfinished, ended_at}
+use Rattle.ts_mux.specs.Framing.{Framing, capture_of, fed, unfinished, ended_at}
 use Rattle.ts_mux.specs.Muxing.{pending_items}
 use Rattle.ts_mux.specs.Order.{Item, order, closing}
 use Rattle.ts_engine.specs.declared.capture_session.CaptureSession.{CaptureSession as Snapshot}
@@ -39,6 +39,6 @@ pub record HasAnswered (r : Snapshot) : Type 0 where
 -- a new capture session
 pub record Begins (limits : WireLimits) (r : Snapshot) : Type 0 where
   pub capture : (more : List ℕ) → capture_of r.frames more ≡ capture more
-  pub coming : (frames : List Frame) → All IsFrame frames → coming r frames ≡ order limits frames
+  pub coming : (frames : List Frame) → coming r frames ≡ order limits frames
   pub fed : fed r.frames ≡ 0
   pub answered : HasAnswered r

@@ -11,7 +11,7 @@ use ts_mux::Header;
 const TOGETHER: usize = 512;
 
 // Writes a frame: the header together with the first bytes, then the rest.
-pub(crate) fn write_frame<K: Sink>(out: &mut K, link: u32, bytes: &[u8]) -> Result<(), Failed>
+pub(crate) fn write_frame<K: Sink>(out: &mut K, link: u64, bytes: &[u8]) -> Result<(), Failed>
     ensures all { OnOk result
         (Grows (K.has out.old) (K.has out.new) (framed (record { link = link; bytes = bytes.now }))) }
     ensures front { OnErr result

@@ -1,5 +1,5 @@
 -- Lemmas about the pending items of a `Mux` after a protocol error, and after it closed a connection.
-use Rattle.std.proofs.Common.{◌≡◌, ℕ, Bool, true, false, ◌==◌, if◌then◌else◌, List, [], ◌∷◌, ◌++◌, length, drop, get_or, Option, Some, None, refl, sym, ap, ◌∙◌, subst}
+use Rattle.std.proofs.Common.{◌≡◌, ℕ, Bool, true, false, ◌==◌, if◌then◌else◌, List, [], ◌∷◌, ◌++◌, length, drop, Option, Some, None, refl, sym, ap, ◌∙◌, subst}
 use Rattle.std.proofs.lemmas.Bool.{eqb-true, eqb-false, eq-eqb}
 use Rattle.std.specs.Ordering.{nat_cmp}
 use Rattle.std.specs.BTreeMap.{BTreeMap, get}
@@ -19,10 +19,10 @@ use Rattle.ts_mux.proofs.MuxLemmas.{ahead_same, ahead_asked}
 
 -- ---- a protocol error
 
-done_broken : (limits : WireLimits) (closed : List Bool) (readers : BTreeMap ℕ Reading) (link : ℕ) (reader : Reading) (p : Protocol)
+done_broken : (limits : WireLimits) (closed : ℕ → Bool) (readers : BTreeMap ℕ Reading) (link : ℕ) (reader : Reading) (p : Protocol)
     → ((more : List ℕ) → stream_of reader more ≡ Broken p.kind p.place)
     → IsDone (connections limits closed readers (Some (record { link = link; reader = reader })) link)
-done_broken limits closed readers link reader p h = go (get_or closed link true) (link == link) (eq-eqb link link refl)
+done_broken limits closed readers link reader p h = go (closed link) (link == link) (eq-eqb link link refl)
   where
     go : (gone here : Bool) → here ≡ true
         → IsDone (if gone then None else Some (stream_or limits (reader_or (if here then Some reader else None) (get nat_cmp readers link))))
@@ -32,7 +32,7 @@ done_broken limits closed readers link reader p h = go (get_or closed link true)
         ∙ ap (λ stream. drop 1 (events_of stream)) (h (before ++ bytes))
     go false false e = absurd (eqb-false 0 0 (sym e) refl)
 
-pub ahead_failed : (limits : WireLimits) (closed : List Bool) (readers : BTreeMap ℕ Reading) (link : ℕ) (old new : Reading) (p : Protocol)
+pub ahead_failed : (limits : WireLimits) (closed : ℕ → Bool) (readers : BTreeMap ℕ Reading) (link : ℕ) (old new : Reading) (p : Protocol)
     → ((more : List ℕ) → stream_of new more ≡ Broken p.kind p.place) → ((more : List ℕ) → stream_of new more ≡ stream_of old more) → (frames : List Frame)
     → pending_items_of limits closed readers (Some (record { link = link; reader = old })) frames
     ≡ record { link = link; event = Failed p } ∷ without link (pending_items_of limits closed readers (Some (record { link = link; reader = new })) frames)
@@ -48,7 +48,7 @@ ahead_failed limits closed readers link old new p broken same frames =
     after : ℕ → Connection
     after = connections limits closed readers (Some (record { link = link; reader = new }))
 
-gives_here : (limits : WireLimits) (closed : List Bool) (readers : BTreeMap ℕ Reading) (turn : Turn) (link : ℕ) (old new : Reading)
+gives_here : (limits : WireLimits) (closed : ℕ → Bool) (readers : BTreeMap ℕ Reading) (turn : Turn) (link : ℕ) (old new : Reading)
     → IsNextOfReader turn link old new
     → IsNextTurn turn (pending_items_of limits closed readers (Some (record { link = link; reader = old }))) (pending_items_of limits closed readers (Some (record { link = link; reader = new })))
 gives_here limits closed readers (turn.Request at words) link old new says =
@@ -63,7 +63,7 @@ gives_here limits closed readers turn.NotYet link old new says =
     (λ frames. ahead_same limits closed readers link old new says.0 frames, ap (λ events. items_of link events ++ []) says.1)
 gives_here limits closed readers turn.Memory link old new says = λ frames. ahead_same limits closed readers link old new says frames
 
-pub gives : (limits : WireLimits) (closed : List Bool) (readers : BTreeMap ℕ Reading) (turn : Turn) (old new : CurrentConnection) → new.link ≡ old.link → IsNextOfReader turn old.link old.reader new.reader
+pub gives : (limits : WireLimits) (closed : ℕ → Bool) (readers : BTreeMap ℕ Reading) (turn : Turn) (old new : CurrentConnection) → new.link ≡ old.link → IsNextOfReader turn old.link old.reader new.reader
     → IsNextTurn turn (pending_items_of limits closed readers (Some old)) (pending_items_of limits closed readers (Some new))
 gives limits closed readers turn old new e says =
     subst (λ at. IsNextTurn turn (pending_items_of limits closed readers (Some old)) (pending_items_of limits closed readers (Some (record { link = at; reader = new.reader }))))
@@ -92,7 +92,7 @@ hand_apart link (Some current_connection) at apart = go (current_connection.link
         other false same = refl
     go false e = refl
 
-pub ahead_closed : (limits : WireLimits) (closed gone : List Bool) (readers rest : BTreeMap ℕ Reading) (current_connection : Option CurrentConnection) (link : ℕ)
+pub ahead_closed : (limits : WireLimits) (closed gone : ℕ → Bool) (readers rest : BTreeMap ℕ Reading) (current_connection : Option CurrentConnection) (link : ℕ)
     → MarksClosed link closed gone → ((at : ℕ) → (at == link) ≡ false → get nat_cmp rest at ≡ get nat_cmp readers at) → (frames : List Frame)
     → pending_items_of limits gone rest (current_without link current_connection) frames ≡ without link (pending_items_of limits closed readers current_connection frames)
 ahead_closed limits closed gone readers rest current_connection link marks same frames =
@@ -108,14 +108,14 @@ ahead_closed limits closed gone readers rest current_connection link marks same 
 
     done : IsDone (new link)
     done = subst (λ test. IsDone (if test then None else Some (stream_or limits (reader_or (current_reader (current_without link current_connection) link) (get nat_cmp rest link)))))
-        (sym (marks link ∙ ap (λ test. if test then true else get_or closed link true) (eq-eqb link link refl))) (λ before bytes. refl)
+        (sym (marks link ∙ ap (λ test. if test then true else closed link) (eq-eqb link link refl))) (λ before bytes. refl)
 
     equal : (at : ℕ) → (at == link) ≡ false → old at ≡ new at
     equal at apart = sym
         (ap (λ test. if test then None else Some (stream_or limits (reader_or (current_reader (current_without link current_connection) at) (get nat_cmp rest at))))
-        (marks at ∙ ap (λ test. if test then true else get_or closed at true) apart)
-        ∙ ap (λ reader. if get_or closed at true then None else Some (stream_or limits (reader_or reader (get nat_cmp rest at)))) (hand_apart link current_connection at apart)
-        ∙ ap (λ reader. if get_or closed at true then None else Some (stream_or limits (reader_or (current_reader current_connection at) reader))) (same at apart))
+        (marks at ∙ ap (λ test. if test then true else closed at) apart)
+        ∙ ap (λ reader. if closed at then None else Some (stream_or limits (reader_or reader (get nat_cmp rest at)))) (hand_apart link current_connection at apart)
+        ∙ ap (λ reader. if closed at then None else Some (stream_or limits (reader_or (current_reader current_connection at) reader))) (same at apart))
 
     alike : AreAlikeBut link old new
     alike = λ at apart before bytes. ap (λ connection. new_events_of connection before bytes) (equal at apart)

@@ -1,5 +1,5 @@
 -- Lemmas about the pending items of a `Mux` before and after it delivers a frame.
-use Rattle.std.proofs.Common.{◌≡◌, ℕ, suc, Bool, true, false, ◌<◌, ◌==◌, if◌then◌else◌, List, [], ◌∷◌, ◌++◌, length, drop, get_or, Option, Some, None, refl, sym, ap, ◌∙◌, subst, append_assoc, append-nil, arith}
+use Rattle.std.proofs.Common.{◌≡◌, ℕ, suc, Bool, true, false, ◌<◌, ◌==◌, if◌then◌else◌, List, [], ◌∷◌, ◌++◌, length, drop, Option, Some, None, refl, sym, ap, ◌∙◌, subst, append_assoc, append-nil, arith}
 use Rattle.std.proofs.lemmas.Bool.{eqb-true, eqb-false, eq-eqb}
 use Rattle.std.specs.Ordering.{nat_cmp}
 use Rattle.std.specs.BTreeMap.{BTreeMap, get}
@@ -78,8 +78,8 @@ alike_frame old new (byte ∷ bytes) some h asked =
     go true e = done_reader new e
     go false e = alike_fed old new (byte ∷ bytes) h
 
-pub ahead_fed : (limits : WireLimits) (closed : List Bool) (readers : BTreeMap ℕ Reading) (link : ℕ) (old new : Reading) (bytes : List ℕ)
-    → 0 < length bytes → get_or closed link true ≡ false → ((more : List ℕ) → stream_of new more ≡ stream_of old (bytes ++ more))
+pub ahead_fed : (limits : WireLimits) (closed : ℕ → Bool) (readers : BTreeMap ℕ Reading) (link : ℕ) (old new : Reading) (bytes : List ℕ)
+    → 0 < length bytes → closed link ≡ false → ((more : List ℕ) → stream_of new more ≡ stream_of old (bytes ++ more))
     → events_of (stream_of old []) ≡ [] → (frames : List Frame)
     → pending_items_of limits closed readers (Some (record { link = link; reader = new })) frames
     ≡ pending_items_of limits closed readers (Some (record { link = link; reader = old })) (record { link = link; bytes = bytes } ∷ frames)
@@ -116,13 +116,13 @@ ahead_fed limits closed readers link old new bytes some is_open h asked frames =
             (subst (λ connection. Alike connection (after_bytes never_closes own bytes)) (sym its) (alike_frame old new bytes some h asked))
         go at false apart = λ first more.
             ap (λ connection. new_events_of connection first more)
-            (ap (λ here. if get_or closed at true then None else Some (stream_or limits (reader_or (if here then Some new else None) (get nat_cmp readers at)))) (apart-sym at link apart)
-            ∙ sym (ap (λ here. if get_or closed at true then None else Some (stream_or limits (reader_or (if here then Some old else None) (get nat_cmp readers at)))) (apart-sym at link apart)))
+            (ap (λ here. if closed at then None else Some (stream_or limits (reader_or (if here then Some new else None) (get nat_cmp readers at)))) (apart-sym at link apart)
+            ∙ sym (ap (λ here. if closed at then None else Some (stream_or limits (reader_or (if here then Some old else None) (get nat_cmp readers at)))) (apart-sym at link apart)))
 
 -- ---- other frames
 
 -- a frame of a closed connection
-pub ahead_passed : (limits : WireLimits) (closed : List Bool) (readers : BTreeMap ℕ Reading) (current_connection : Option CurrentConnection) (frame : Frame) → get_or closed frame.link true ≡ true
+pub ahead_passed : (limits : WireLimits) (closed : ℕ → Bool) (readers : BTreeMap ℕ Reading) (current_connection : Option CurrentConnection) (frame : Frame) → closed frame.link ≡ true
     → (frames : List Frame) → pending_items_of limits closed readers current_connection frames ≡ pending_items_of limits closed readers current_connection (frame ∷ frames)
 ahead_passed limits closed readers current_connection frame gone frames =
     ap (λ items. pending_of_current current_connection ++ items)
@@ -154,7 +154,7 @@ none_of (byte ∷ bytes) e =
     absurd (omega (long, arith))
 
 -- an empty frame
-pub ahead_empty : (limits : WireLimits) (closed : List Bool) (readers : BTreeMap ℕ Reading) (current_connection : Option CurrentConnection) (frame : Frame) → (length frame.bytes == 0) ≡ true
+pub ahead_empty : (limits : WireLimits) (closed : ℕ → Bool) (readers : BTreeMap ℕ Reading) (current_connection : Option CurrentConnection) (frame : Frame) → (length frame.bytes == 0) ≡ true
     → pending_items_of limits closed readers current_connection [] ≡ [] → (frames : List Frame)
     → without frame.link (pending_items_of limits closed readers current_connection frames) ≡ pending_items_of limits closed readers current_connection (frame ∷ frames)
 ahead_empty limits closed readers current_connection frame empty asked frames =
@@ -175,3 +175,11 @@ ahead_empty limits closed readers current_connection frame empty asked frames =
 
     done : IsDone (with_link before frame.link None frame.link)
     done = subst (λ test. IsDone (if test then None else before frame.link)) (sym (eq-eqb frame.link frame.link refl)) (λ first more. refl)
+
+-- the connections are described in another way, and are the same
+pub ahead_reached : (limits : WireLimits) (closed now : ℕ → Bool) (readers : BTreeMap ℕ Reading) (current_connection : Option CurrentConnection)
+    → ((at : ℕ) → now at ≡ closed at) → (frames : List Frame)
+    → pending_items_of limits now readers current_connection frames ≡ pending_items_of limits closed readers current_connection frames
+ahead_reached limits closed now readers current_connection same frames = ap (λ items. pending_of_current current_connection ++ items)
+    (items-alike never_closes (connections limits now readers current_connection) (connections limits closed readers current_connection) frames
+    (λ at first more. ap (λ gone. new_events_of (if gone then None else Some (stream_or limits (reader_or (current_reader current_connection at) (get nat_cmp readers at)))) first more) (same at)))

@@ -1,10 +1,11 @@
+pub mod Answering
 pub mod Apart
 pub mod CaptureLemmas
 pub mod CapturesAtWork
+pub mod ClosedLinks
 pub mod Closing
 pub mod Closings
 pub mod Delivery
-pub mod FramesWithin
 pub mod FramingLemmas
 pub mod FramesReadBack
 pub mod MuxLemmas

@@ -1,5 +1,5 @@
 -- Lemmas about the pending items of a `Mux`, one item at a time.
-use Rattle.std.proofs.Common.{◌≡◌, ℕ, suc, Bool, true, false, ◌==◌, if◌then◌else◌, List, [], ◌∷◌, ◌++◌, length, drop, get_or, Some, None, refl, ap, ◌∙◌, ◌<◌, sym, subst, arith}
+use Rattle.std.proofs.Common.{◌≡◌, ℕ, suc, Bool, true, false, ◌==◌, if◌then◌else◌, List, [], ◌∷◌, ◌++◌, length, drop, Some, None, refl, ap, ◌∙◌, ◌<◌, sym, subst, arith}
 use Rattle.std.specs.Ordering.{nat_cmp}
 use Rattle.std.specs.BTreeMap.{BTreeMap, get}
 use Rattle.ts_spec.specs.declared.wire.WireLimits.{WireLimits}
@@ -11,10 +11,10 @@ use Rattle.ts_mux.specs.Links.{stream_or, reader_or, connections, pending_items_
 use Rattle.ts_mux.proofs.OrderLemmas.{Alike, AreAlike, items-alike}
 
 -- the current connection, with a reader that yields the same
-pub alike_hand : (limits : WireLimits) (closed : List Bool) (readers : BTreeMap ℕ Reading) (link : ℕ) (old new : Reading)
+pub alike_hand : (limits : WireLimits) (closed : ℕ → Bool) (readers : BTreeMap ℕ Reading) (link : ℕ) (old new : Reading)
     → ((before bytes : List ℕ) → new_events (stream_of old) before bytes ≡ new_events (stream_of new) before bytes)
     → AreAlike (connections limits closed readers (Some (record { link = link; reader = old }))) (connections limits closed readers (Some (record { link = link; reader = new })))
-alike_hand limits closed readers link old new h = λ at. go at (get_or closed at true) (link == at)
+alike_hand limits closed readers link old new h = λ at. go at (closed at) (link == at)
   where
     go : (at : ℕ) (gone here : Bool)
         → Alike (if gone then None else Some (stream_or limits (reader_or (if here then Some old else None) (get nat_cmp readers at))))
@@ -23,7 +23,7 @@ alike_hand limits closed readers link old new h = λ at. go at (get_or closed at
     go at false true = h
     go at false false = λ before bytes. refl
 
-pub ahead_same : (limits : WireLimits) (closed : List Bool) (readers : BTreeMap ℕ Reading) (link : ℕ) (old new : Reading)
+pub ahead_same : (limits : WireLimits) (closed : ℕ → Bool) (readers : BTreeMap ℕ Reading) (link : ℕ) (old new : Reading)
     → ((more : List ℕ) → stream_of new more ≡ stream_of old more) → (frames : List Frame)
     → pending_items_of limits closed readers (Some (record { link = link; reader = new })) frames ≡ pending_items_of limits closed readers (Some (record { link = link; reader = old })) frames
 ahead_same limits closed readers link old new h frames =
@@ -34,7 +34,7 @@ ahead_same limits closed readers link old new h frames =
     (λ before bytes. ap (λ stream. drop (length (events_of stream)) (events_of (stream_of new (before ++ bytes)))) (h before)
     ∙ ap (λ stream. drop (length (events_of (stream_of old before))) (events_of stream)) (h (before ++ bytes)))))
 
-pub ahead_asked : (limits : WireLimits) (closed : List Bool) (readers : BTreeMap ℕ Reading) (link : ℕ) (old new : Reading) (words : Request) (place : ℕ)
+pub ahead_asked : (limits : WireLimits) (closed : ℕ → Bool) (readers : BTreeMap ℕ Reading) (link : ℕ) (old new : Reading) (words : Request) (place : ℕ)
     → ((more : List ℕ) → stream_of old more ≡ Then words place (stream_of new more)) → (frames : List Frame)
     → pending_items_of limits closed readers (Some (record { link = link; reader = old })) frames
     ≡ record { link = link; event = Asked words } ∷ pending_items_of limits closed readers (Some (record { link = link; reader = new })) frames

@@ -1,5 +1,5 @@
 -- Lemmas about storing the reader of the current connection, and loading that of another.
-use Rattle.std.proofs.Common.{◌≡◌, ℕ, Bool, true, false, ◌≤◌, ◌==◌, if◌then◌else◌, List, [], ◌∷◌, ◌++◌, length, drop, get_or, Option, Some, None, refl, sym, ap, ◌∙◌, subst, append-nil}
+use Rattle.std.proofs.Common.{◌≡◌, ℕ, Bool, true, false, ◌≤◌, ◌==◌, if◌then◌else◌, List, [], ◌∷◌, ◌++◌, length, drop, Option, Some, None, refl, sym, ap, ◌∙◌, subst, append-nil}
 use Rattle.std.proofs.lemmas.Bool.{eqb-true}
 use Rattle.std.specs.Option.{IsSome}
 use Rattle.std.specs.Ordering.{nat_cmp}
@@ -11,7 +11,7 @@ use Rattle.ts_resp.specs.Reading.{Reading, stream_of, fed}
 use Rattle.ts_mux.specs.declared.frame.Frame.{Frame}
 use Rattle.ts_mux.specs.declared.current_connection.CurrentConnection.{CurrentConnection}
 use Rattle.ts_mux.specs.Order.{Event, Item, events_of, new_events, new_events_of, items_of, items_from, never_closes}
-use Rattle.ts_mux.specs.Links.{stream_or, reader_or, connections, pending_of_current, pending_items_of, pending_events, fed_in, AreDrained, AreFedAtMost}
+use Rattle.ts_mux.specs.Links.{current_reader, stream_or, reader_or, connections, pending_of_current, pending_items_of, pending_events, fed_in, AreDrained, AreFedAtMost}
 use Rattle.ts_mux.proofs.Apart.{apart-sym, other_key}
 use Rattle.ts_mux.proofs.OrderLemmas.{Alike, items-alike}
 
@@ -50,30 +50,38 @@ module _ (readers rest : BTreeMap ℕ Reading) (held : CurrentConnection) (updat
       go at true same = subst (λ reader. fed_in reader ≤ most) (sym (ap (λ to. get nat_cmp rest to) (eqb-true at held.link same) ∙ updates.1)) within
       go at false apart = subst (λ reader. fed_in reader ≤ most) (sym (updates.2 at (other_key held.link at apart))) (all at)
 
-  pub ahead_put : (limits : WireLimits) (closed : List Bool) → events_of (stream_of held.reader []) ≡ [] → (frames : List Frame)
+  pub ahead_put : (limits : WireLimits) (closed : ℕ → Bool) → events_of (stream_of held.reader []) ≡ [] → (frames : List Frame)
       → pending_items_of limits closed rest None frames ≡ pending_items_of limits closed readers (Some held) frames
   ahead_put limits closed none frames =
       items-alike never_closes (connections limits closed rest None) (connections limits closed readers (Some held)) frames
-      (λ at before bytes. ap (λ reader. new_events_of (if get_or closed at true then None else Some (stream_or limits reader)) before bytes) (go at (held.link == at) refl))
+      (λ at before bytes. ap (λ reader. new_events_of (if closed at then None else Some (stream_or limits reader)) before bytes) (go at (held.link == at) refl))
       ∙ ap (λ events. items_of held.link events ++ items_from never_closes (connections limits closed readers (Some held)) frames) (sym none)
     where
       go : (at : ℕ) (test : Bool) → (held.link == at) ≡ test → get nat_cmp rest at ≡ reader_or (if test then Some held.reader else None) (get nat_cmp readers at)
       go at true same = ap (λ to. get nat_cmp rest to) (sym (eqb-true held.link at same)) ∙ updates.1
       go at false apart = updates.2 at (other_key held.link at (apart-sym held.link at apart))
 
+-- a map with the same readers
+pub ahead_unchanged : (limits : WireLimits) (closed : ℕ → Bool) (old new : BTreeMap ℕ Reading) (current_connection : Option CurrentConnection)
+    → ((at : ℕ) → get nat_cmp new at ≡ get nat_cmp old at) → (frames : List Frame)
+    → pending_items_of limits closed new current_connection frames ≡ pending_items_of limits closed old current_connection frames
+ahead_unchanged limits closed old new current_connection same frames = ap (λ items. pending_of_current current_connection ++ items)
+    (items-alike never_closes (connections limits closed new current_connection) (connections limits closed old current_connection) frames
+    (λ at before bytes. ap (λ reader. new_events_of (if closed at then None else Some (stream_or limits (reader_or (current_reader current_connection at) reader))) before bytes) (same at)))
+
 -- ---- loading a reader and leaving a fresh one
 
 pub fresh_events : (limits : WireLimits) (reader : Reading) → ((more : List ℕ) → stream_of reader more ≡ stream_at limits 0 more) → events_of (stream_of reader []) ≡ []
 fresh_events limits reader fresh = ap events_of (fresh [] ∙ read_on-nil limits 0 0 Start)
 
-module _ (readers : BTreeMap ℕ Reading) (link : ℕ) (limits : WireLimits) (closed : List Bool) where
+module _ (readers : BTreeMap ℕ Reading) (link : ℕ) (limits : WireLimits) (closed : ℕ → Bool) where
   pub ahead_taken : (rest : BTreeMap ℕ Reading) (reader fresh : Reading) → Updates nat_cmp readers rest link (Some fresh)
       → get nat_cmp readers link ≡ Some reader → AreDrained readers → (frames : List Frame)
       → pending_items_of limits closed rest (Some (record { link = link; reader = reader })) frames ≡ pending_items_of limits closed readers None frames
   ahead_taken rest reader fresh updates there all frames =
       ap (λ events. items_of link events ++ items_from never_closes (connections limits closed rest (Some (record { link = link; reader = reader }))) frames) (ap pending_events (sym there) ∙ all link)
       ∙ items-alike never_closes (connections limits closed rest (Some (record { link = link; reader = reader }))) (connections limits closed readers None) frames
-      (λ at before bytes. ap (λ reader. new_events_of (if get_or closed at true then None else Some (stream_or limits reader)) before bytes) (go at (link == at) refl))
+      (λ at before bytes. ap (λ reader. new_events_of (if closed at then None else Some (stream_or limits reader)) before bytes) (go at (link == at) refl))
     where
       go : (at : ℕ) (test : Bool) → (link == at) ≡ test → reader_or (if test then Some reader else None) (get nat_cmp rest at) ≡ get nat_cmp readers at
       go at true same = sym there ∙ ap (λ to. get nat_cmp readers to) (eqb-true link at same)
@@ -85,7 +93,7 @@ module _ (readers : BTreeMap ℕ Reading) (link : ℕ) (limits : WireLimits) (cl
       ap (λ events. items_of link events ++ items_from never_closes (connections limits closed readers (Some (record { link = link; reader = reader }))) frames)
       (fresh_events limits reader fresh)
       ∙ items-alike never_closes (connections limits closed readers (Some (record { link = link; reader = reader }))) (connections limits closed readers None) frames
-      (λ at. go at (get_or closed at true) (link == at) refl)
+      (λ at. go at (closed at) (link == at) refl)
     where
       same : (before bytes : List ℕ) → new_events (stream_of reader) before bytes ≡ new_events (stream_at limits 0) before bytes
       same before bytes =

@@ -1,4 +1,6 @@
+pub mod Answering
 pub mod Capture
+pub mod ClosedLinks
 pub mod Framing
 pub mod Links
 pub mod Muxing

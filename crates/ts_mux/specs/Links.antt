@@ -1,5 +1,5 @@
 -- The connections of a `Mux`, and the items that they still yield.
-use Rattle.std.specs.Prelude.{◌≡◌, ℕ, ◌≤◌, true, Bool, ◌==◌, if◌then◌else◌, List, [], ◌++◌, get_or, Option, Some, None}
+use Rattle.std.specs.Prelude.{◌≡◌, ℕ, suc, ◌≤◌, true, Bool, ◌==◌, if◌then◌else◌, List, [], ◌++◌, Option, Some, None}
 use Rattle.std.specs.Ordering.{nat_cmp}
 use Rattle.std.specs.BTreeMap.{BTreeMap, get}
 use Rattle.ts_spec.specs.declared.wire.WireLimits.{WireLimits}
@@ -24,10 +24,10 @@ abbrev pub stream_or : WireLimits → Option Reading → List ℕ → Stream
 stream_or limits None more = stream_at limits 0 more
 stream_or limits (Some reader) more = stream_of reader more
 
--- the connections of a `Mux`, from the closed ones, the readers and the current connection
-abbrev pub connections : WireLimits → List Bool → BTreeMap ℕ Reading → Option CurrentConnection → ℕ → Connection
+-- the connections of a `Mux`, from the closed ones (`closed` tells them), the readers and the current connection
+abbrev pub connections : WireLimits → (ℕ → Bool) → BTreeMap ℕ Reading → Option CurrentConnection → ℕ → Connection
 connections limits closed readers current_connection link =
-    if get_or closed link true then None else Some (stream_or limits (reader_or (current_reader current_connection link) (get nat_cmp readers link)))
+    if closed link then None else Some (stream_or limits (reader_or (current_reader current_connection link) (get nat_cmp readers link)))
 
 -- the items left in the frames delivered so far
 abbrev pub pending_of_current : Option CurrentConnection → List Item
@@ -35,7 +35,7 @@ pending_of_current None = []
 pending_of_current (Some current_connection) = items_of current_connection.link (events_of (stream_of current_connection.reader []))
 
 -- the pending items: those of the frames delivered so far, then those of `frames`
-abbrev pub pending_items_of : WireLimits → List Bool → BTreeMap ℕ Reading → Option CurrentConnection → List Frame → List Item
+abbrev pub pending_items_of : WireLimits → (ℕ → Bool) → BTreeMap ℕ Reading → Option CurrentConnection → List Frame → List Item
 pending_items_of limits closed readers current_connection frames = pending_of_current current_connection ++ items_from never_closes (connections limits closed readers current_connection) frames
 
 -- the events left in a reader, and how many bytes it was fed; none and 0 without a reader
@@ -64,6 +64,11 @@ abbrev pub current_without : ℕ → Option CurrentConnection → Option Current
 current_without link None = None
 current_without link (Some current_connection) = if current_connection.link == link then None else Some current_connection
 
+-- the number after that of the current connection
+abbrev pub end_of_current : Option CurrentConnection → ℕ
+end_of_current None = 0
+end_of_current (Some current_connection) = suc current_connection.link
+
 -- `link` is closed now, and every other connection is as before
-abbrev pub MarksClosed : ℕ → (old new : List Bool) → Type 0
-MarksClosed link old new = (at : ℕ) → get_or new at true ≡ (if at == link then true else get_or old at true)
+abbrev pub MarksClosed : ℕ → (old new : ℕ → Bool) → Type 0
+MarksClosed link old new = (at : ℕ) → new at ≡ (if at == link then true else old at)

@@ -28,6 +28,13 @@ IfFault (Fault link protocol) P = P link
 IfFault NotYet P = Unit {0}
 IfFault Memory P = Unit {0}
 
+-- a fact about the connection of the item, if there is one
+abbrev pub IfLink : Turn → (ℕ → Type 0) → Type 0
+IfLink (Request link words) P = P link
+IfLink (Fault link protocol) P = P link
+IfLink NotYet P = Unit {0}
+IfLink Memory P = Unit {0}
+
 -- a fact, if there is no item
 abbrev pub UnlessItem : Turn → Type 0 → Type 0
 UnlessItem (Request link words) P = Unit {0}

@@ -9,9 +9,9 @@ use ts_resp::{Next, Protocol, Reader, Word};
 #[derive(Debug, Drop)]
 pub enum Turn {
     /// The number of a connection, and the arguments of its next request (at least one).
-    Request(u32, Vec<Word>),
+    Request(u64, Vec<Word>),
     /// The number of a connection, and the protocol error that closes it.
-    Fault(u32, Protocol),
+    Fault(u64, Protocol),
     /// The frames delivered so far contain no further request or error of an open connection.
     NotYet,
     /// Out of memory for an argument. A later call may succeed.
@@ -21,7 +21,7 @@ pub enum Turn {
 // The connection whose frame was delivered last.
 #[derive(Drop)]
 pub(crate) struct CurrentConnection {
-    pub(crate) link: u32,
+    pub(crate) link: u64,
     pub(crate) reader: Reader,
 }
 

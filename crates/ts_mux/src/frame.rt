@@ -39,11 +39,11 @@ impl Model for Header {
 
 impl Header {
     /// The header of a frame with `len` bytes. Allocates nothing.
-    pub fn new(link: u32, len: usize) -> Header
+    pub fn new(link: u64, len: usize) -> Header
         ensures { result ≡ header link len }
     {
         let mut header_buffer = [0; HEADER_CAPACITY];
-        let space = put_number(&mut header_buffer, 0, link as u64);
+        let space = put_number(&mut header_buffer, 0, link);
         let second = put(&mut header_buffer, space, b" ");
         let feed = put_number(&mut header_buffer, second, len as u64);
         let len = put(&mut header_buffer, feed, b"\n");

@@ -1,5 +1,5 @@
 // Laws of captures, and of the order of interleaved connections.
-ghost use Rattle.std.specs.Prelude.{◌≡◌, ℕ, List, All};
+ghost use Rattle.std.specs.Prelude.{◌≡◌, ℕ, true, ◌==◌, List, ◌∷◌, All};
 ghost use Rattle.ts_spec.specs.Wire.{stream_at};
 ghost use Rattle.ts_spec.specs.Run.{is_quit};
 ghost use Rattle.ts_mux.specs.declared.frame.Frame.{Frame};
@@ -27,6 +27,12 @@ pub fn each_connection_has_its_own_requests(limits: WireLimits)
 pub fn connections_stand_apart(limits: WireLimits)
     ensures { (link : ℕ) (frames : List Frame)
         → order limits (frames_without link frames) ≡ without link (order limits frames) }
+{}
+
+/// Law: a frame of one connection yields nothing of any other.
+pub fn bytes_bring_nothing_of_others(limits: WireLimits)
+    ensures { (link : ℕ) (frame : Frame) (frames : List Frame) → (frame.link == link) ≡ true
+        → without link (order limits (frame ∷ frames)) ≡ without link (order limits frames) }
 {}
 
 /// Law: dropping what each connection sends after its first QUIT or error turns `order_without_quits` into `order`. Closing one

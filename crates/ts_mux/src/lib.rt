@@ -1,6 +1,7 @@
 //! Interleaved connections: parses the frames of a capture, and yields the requests of all connections in order.
 #![tactic(auto)]
 
+mod closed;
 mod current_connection;
 mod frame;
 mod frame_progress;
@@ -12,7 +13,7 @@ pub use current_connection::Turn;
 pub use frame::{Frame, Header};
 pub use frames::{Frames, NextFrame};
 pub use laws::{
-    closings_make_the_order, connections_stand_apart, each_connection_has_its_own_requests,
-    written_frames_read_back,
+    bytes_bring_nothing_of_others, closings_make_the_order, connections_stand_apart,
+    each_connection_has_its_own_requests, written_frames_read_back,
 };
 pub use mux::Mux;

@@ -1,10 +1,10 @@
 // Yields the requests of interleaved connections in order.
-ghost use Rattle.std.specs.Prelude.{◌≡◌, ◌≢◌, ℕ, ◌+◌, ◌^◌, ◌<◌, ◌≤◌, true, false, List, [], ◌∷◌, get_or, length, All};
+ghost use Rattle.std.specs.Prelude.{◌≡◌, ◌≢◌, ℕ, ◌+◌, ◌^◌, ◌<◌, ◌≤◌, List, [], ◌∷◌, length};
 ghost use Rattle.std.specs.Prelude.{OnOk, OnErr};
 ghost use Rattle.ts_mux.specs.declared.frame.Frame.{Frame};
-ghost use Rattle.ts_mux.specs.Capture.{MOST_LINKS};
-ghost use Rattle.ts_mux.specs.Links.{AreDrained, AreFedAtMost, MarksClosed, bytes_fed_to_current, current_without};
+ghost use Rattle.ts_mux.specs.Links.{AreDrained, AreFedAtMost, bytes_fed_to_current, current_without, end_of_current};
 
+use crate::closed::Closed;
 use crate::current_connection::CurrentConnection;
 use crate::{Frame, Turn};
 use std::alloc::{AllocError, Global};
@@ -14,18 +14,15 @@ use ts_spec::WireLimits;
 
 mod delivery;
 
-// Connection numbers are 1 to 4096; 0 is unused.
-const LINKS: usize = 4097;
-
-/// Yields the requests of interleaved connections in the order in which they are completed.
+/// Yields the requests of interleaved connections in the order in which they are completed. No connection number is
+/// used twice: a closed connection stays closed.
 #[derive(Drop)]
 pub struct Mux {
     alloc: Global,
     limits: WireLimits,
-    // whether each connection is closed, by its number
-    closed: [bool; LINKS],
+    closed: Closed,
     // the readers of the open connections that have sent bytes; the current connection's may be a fresh one here
-    readers: BTreeMap<u32, Reader>,
+    readers: BTreeMap<u64, Reader>,
     current_connection: Option<CurrentConnection>,
     // how many bytes were delivered
     delivered: u64,
@@ -36,13 +33,13 @@ pub struct Mux {
     ghost asked: { AreDrained readers },
     ghost within: { AreFedAtMost delivered readers },
     ghost current_within: { bytes_fed_to_current current_connection ≤ delivered },
+    ghost reached: { end_of_current current_connection ≤ closed.reached },
 }
 
 impl Mux {
-    ghost use Rattle.ts_mux.specs.Framing.{IsFrame};
     ghost use Rattle.ts_mux.specs.Order.{order_without_quits, without};
-    ghost use Rattle.ts_mux.specs.Muxing.{pending_items, delivered_to};
-    ghost use Rattle.ts_mux.specs.Turns.{IfItem, IfRequest, IfFault, UnlessItem, OnNotYet, IsNextTurn};
+    ghost use Rattle.ts_mux.specs.Muxing.{pending_items, delivered_to, reach_of};
+    ghost use Rattle.ts_mux.specs.Turns.{IfItem, IfLink, IfRequest, IfFault, UnlessItem, OnNotYet, IsNextTurn};
 
     /// A `Mux` without frames. Allocates nothing.
     pub fn new(alloc: Global, limits: WireLimits) -> Mux
@@ -50,14 +47,13 @@ impl Mux {
         requires word_bytes { 1 ≤ limits.word_bytes }
         requires request_bytes { 1 ≤ limits.request_bytes }
         requires line_bytes { 1 ≤ limits.line_bytes }
-        ensures order { (frames : List Frame) → All IsFrame frames
-            → pending_items result frames ≡ order_without_quits limits frames }
+        ensures order { (frames : List Frame) → pending_items result frames ≡ order_without_quits limits frames }
         ensures delivered { delivered_to result ≡ 0 }
     {
         Mux {
             alloc,
             limits,
-            closed: none_closed(),
+            closed: Closed::new(alloc),
             readers: BTreeMap::new(alloc),
             current_connection: None,
             delivered: 0,
@@ -75,16 +71,7 @@ impl Mux {
             → pending_items self.new frames ≡ pending_items self.old frames) }
         ensures err_delivered { OnErr result (delivered_to self.new ≡ delivered_to self.old) }
     {
-        let bytes = frame.bytes.bytes();
-        if bytes.is_empty() {
-            self.close(frame.link);
-            return Ok(());
-        }
-        if self.is_closed(frame.link) {
-            self.delivered += bytes.len() as u64;
-            return Ok(());
-        }
-        self.feed(frame.link, bytes)
+        self.deliver_bytes(frame.link as u64, frame.bytes.bytes())
     }
 
     /// Returns the next request or protocol error of the frames delivered so far. An error closes its connection; a
@@ -101,6 +88,7 @@ impl Mux {
         ensures same { UnlessItem result ((frames : List Frame)
             → pending_items self.new frames ≡ pending_items self.old frames) }
         ensures not_yet { OnNotYet result (pending_items self.new [] ≡ []) }
+        ensures reached { IfLink result (λ link. link < reach_of self.new) }
         ensures delivered { delivered_to self.new ≡ delivered_to self.old }
     {
         match self.ask() {
@@ -118,6 +106,7 @@ impl Mux {
     /// capacity again. Frees the memory of unusually large requests.
     pub fn give_back(&mut self, words: Vec<Word>)
         ensures same { (frames : List Frame) → pending_items self.new frames ≡ pending_items self.old frames }
+        ensures reach { reach_of self.new ≡ reach_of self.old }
         ensures delivered { delivered_to self.new ≡ delivered_to self.old }
     {
         recycle_in_current(&mut self.current_connection, words);
@@ -127,6 +116,7 @@ impl Mux {
     fn ask(&mut self) -> Turn
         ensures words { IfRequest result (λ words. words ≢ []) }
         ensures gives { IsNextTurn result (pending_items self.old) (pending_items self.new) }
+        ensures reached { IfLink result (λ link. link < reach_of self.new) }
         ensures delivered { delivered_to self.new ≡ delivered_to self.old }
     {
         match &mut self.current_connection {
@@ -135,36 +125,22 @@ impl Mux {
         }
     }
 
-    /// Closes a connection and drops its unread bytes. Allocates nothing.
-    pub fn close(&mut self, link: u32)
+    /// Closes a connection that was reached, and drops its unread bytes. Allocates nothing.
+    pub fn close(&mut self, link: u64)
+        requires { link < reach_of self.old }
         ensures others { (frames : List Frame)
             → pending_items self.new frames ≡ without link (pending_items self.old frames) }
+        ensures reach { reach_of self.new ≡ reach_of self.old }
         ensures delivered { delivered_to self.new ≡ delivered_to self.old }
     {
-        mark_closed(&mut self.closed, link);
+        self.closed.mark(link);
         self.readers.remove(&link);
         drop_current(&mut self.current_connection, link);
     }
 }
 
-fn none_closed() -> [bool; LINKS]
-    ensures { (link : ℕ) → link ≤ MOST_LINKS → get_or result link true ≡ false }
-{
-    [false; LINKS]
-}
-
-fn mark_closed(closed: &mut [bool; LINKS], link: u32)
-    ensures { MarksClosed link closed.old closed.new }
-{
-    let link = link as usize;
-    if link >= LINKS {
-        return;
-    }
-    closed[link] = true;
-}
-
 // Drops the current connection if it is `link`.
-fn drop_current(current_connection: &mut Option<CurrentConnection>, link: u32)
+fn drop_current(current_connection: &mut Option<CurrentConnection>, link: u64)
     ensures { current_connection.new ≡ current_without link current_connection.old }
 {
     if let Some(at) = current_connection

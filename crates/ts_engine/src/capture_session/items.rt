@@ -7,7 +7,7 @@ ghost use Rattle.ts_mux.specs.Capture.{framed};
 ghost use Rattle.ts_mux.specs.Order.{Asked, without};
 ghost use Rattle.ts_engine.specs.CaptureSteps.{HandledAs, GoesOn, Wrote, Replied, WroteOrFault};
 ghost use Rattle.ts_engine.specs.CaptureView.{frames_in, coming, waiting, capture_progress};
-ghost use Rattle.ts_mux.specs.Muxing.{pending_items};
+ghost use Rattle.ts_mux.specs.Muxing.{pending_items, reach_of};
 ghost use Rattle.ts_spec.specs.Text.{protocol_error_text};
 
 use super::CaptureSession;
@@ -75,13 +75,14 @@ impl CaptureSession {
     // Handles a request and writes its reply. A QUIT closes its connection.
     fn answer<C: Clock, K: Sink, L: Ledger>(
         &mut self,
-        link: u32,
+        link: u64,
         words: Vec<Word>,
         db: &mut Db,
         clock: &mut C,
         out: &mut K,
         steps: &mut Steps<L>,
     ) -> Option<CaptureGo>
+        requires reached { link < reach_of self.old.mux }
         ensures replied { Simulates db.old db.new (λ from to. Replied result
             (record { link = link; event = Asked words.items })
             (record { held = from; readings = C.readings clock.old })
@@ -108,7 +109,8 @@ impl CaptureSession {
     }
 
     // Takes back the vector of a handled request, to use its capacity again, and closes the connection after a QUIT.
-    fn recycle(&mut self, quits: bool, link: u32, words: Vec<Word>)
+    fn recycle(&mut self, quits: bool, link: u64, words: Vec<Word>)
+        requires reached { link < reach_of self.old.mux }
         ensures coming { (frames : List Frame) → coming self.new frames
             ≡ (if quits then without link (coming self.old frames) else coming self.old frames) }
         ensures waiting { waiting self.new ≤ waiting self.old }
@@ -122,7 +124,7 @@ impl CaptureSession {
     }
 
     // Writes a protocol error.
-    fn reply_fault<K: Sink>(&mut self, link: u32, fault: Protocol, out: &mut K) -> Option<CaptureGo>
+    fn reply_fault<K: Sink>(&mut self, link: u64, fault: Protocol, out: &mut K) -> Option<CaptureGo>
         ensures wrote { Wrote result (K.has out.old) (K.has out.new)
             (framed (record { link = link; bytes = protocol_error_text fault.kind })) }
         ensures ends { result ≡ Some CaptureGo.More → ⊥ }
@@ -136,7 +138,7 @@ impl CaptureSession {
     }
 
     // Writes the reply as a frame of the connection.
-    fn write<K: Sink>(&self, link: u32, out: &mut K) -> Option<CaptureGo>
+    fn write<K: Sink>(&self, link: u64, out: &mut K) -> Option<CaptureGo>
         ensures wrote { Wrote result (K.has out.old) (K.has out.new)
             (framed (record { link = link; bytes = self.now.room.bytes })) }
         ensures ends { result ≡ Some CaptureGo.More → ⊥ }

@@ -1,30 +1,58 @@
 // Delivers bytes to an open connection, which becomes the current one.
-ghost use Rattle.std.specs.Prelude.{◌≡◌, ◌+◌, ◌^◌, ◌<◌, ◌≤◌, true, false, List, [], ◌∷◌, get_or, length, Some, None};
+ghost use Rattle.std.specs.Prelude.{◌≡◌, ◌+◌, ◌^◌, ◌<◌, ◌≤◌, false, List, [], ◌∷◌, length, Some, None};
 ghost use Rattle.std.specs.Prelude.{OnOk, OnErr};
 ghost use Rattle.ts_resp.specs.Reading.{fed};
 ghost use Rattle.ts_mux.specs.declared.frame.Frame.{Frame};
+ghost use Rattle.ts_mux.specs.ClosedLinks.{is_closed};
 ghost use Rattle.ts_mux.specs.Links.{pending_items_of};
-ghost use Rattle.ts_mux.specs.Muxing.{pending_items, delivered_to};
+ghost use Rattle.ts_mux.specs.Muxing.{pending_items, delivered_to, reach_of};
 
-use super::{LINKS, Mux};
+use super::Mux;
 use crate::current_connection::CurrentConnection;
 use std::alloc::AllocError;
 use std::mem;
 use ts_resp::Reader;
 
 impl Mux {
-    pub(super) fn is_closed(&self, link: u32) -> bool
-        ensures { result ≡ get_or self.now.closed link true }
+    /// Delivers a frame whose bytes stand elsewhere. On an error nothing was delivered.
+    pub fn deliver_bytes(&mut self, link: u64, bytes: &[u8]) -> Result<(), AllocError>
+        requires asked { pending_items self.old [] ≡ [] }
+        requires bound { delivered_to self.old + length bytes.now < 2 ^ 64 }
+        ensures ok { OnOk result ((frames : List Frame) → pending_items self.new frames
+            ≡ pending_items self.old (record { link = link; bytes = bytes.now } ∷ frames)) }
+        ensures delivered { OnOk result (delivered_to self.new ≡ delivered_to self.old + length bytes.now) }
+        ensures err { OnErr result ((frames : List Frame)
+            → pending_items self.new frames ≡ pending_items self.old frames) }
+        ensures err_delivered { OnErr result (delivered_to self.new ≡ delivered_to self.old) }
     {
-        let link = link as usize;
-        link >= LINKS || self.closed[link]
+        self.reach(link)?;
+        if bytes.is_empty() {
+            self.close(link);
+            return Ok(());
+        }
+        if self.closed.has(link) {
+            self.delivered += bytes.len() as u64;
+            return Ok(());
+        }
+        self.feed(link, bytes)?;
+        Ok(())
+    }
+
+    // Allocates what it takes to close this connection.
+    pub(super) fn reach(&mut self, link: u64) -> Result<(), AllocError>
+        ensures reached { OnOk result (link < reach_of self.new) }
+        ensures same { (frames : List Frame) → pending_items self.new frames ≡ pending_items self.old frames }
+        ensures delivered { delivered_to self.new ≡ delivered_to self.old }
+    {
+        self.closed.reach(link)
     }
 
     // Feeds bytes to an open connection and makes it the current one.
-    pub(super) fn feed(&mut self, link: u32, bytes: &[u8]) -> Result<(), AllocError>
+    pub(super) fn feed(&mut self, link: u64, bytes: &[u8]) -> Result<(), AllocError>
         requires asked { pending_items self.old [] ≡ [] }
         requires some { 0 < length bytes.now }
-        requires open { get_or self.old.closed link true ≡ false }
+        requires open { is_closed self.old.closed link ≡ false }
+        requires reached { link < reach_of self.old }
         requires bound { delivered_to self.old + length bytes.now < 2 ^ 64 }
         ensures ok { OnOk result ((frames : List Frame)
             → pending_items self.new frames
@@ -72,9 +100,9 @@ impl Mux {
     }
 
     // Returns the connection's reader and leaves a fresh one in the map; a new connection gets a fresh one.
-    fn load_reader(&mut self, link: u32) -> Reader
+    fn load_reader(&mut self, link: u64) -> Reader
         requires current_connection { self.old.current_connection ≡ None }
-        ensures same { (frames : List Frame) → pending_items_of self.new.limits self.new.closed self.new.readers
+        ensures same { (frames : List Frame) → pending_items_of self.new.limits (is_closed self.new.closed) self.new.readers
             (Some (record { link = link; reader = result })) frames ≡ pending_items self.old frames }
         ensures fed { fed result ≤ delivered_to self.new }
         ensures current_connection { self.new.current_connection ≡ None }
