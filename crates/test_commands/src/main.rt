@@ -20,12 +20,15 @@
 //! - `ends`, the exit status if it is not 0, and the line on standard error;
 //! - `outcome` and the expected outcome of the library's `pipe`, which is then called instead of the program: the
 //!   requests executed, the bytes taken, and the end, such as `executed 1, taken 14, WriteFault`;
+//! - `executes`: the library's `execute` is then called for each request, at the clock reading 1000, instead of the
+//!   program;
 //! - `#` and a comment.
 //!
 //! A talk passes if exactly what is expected is written, in reads of 4,096 bytes and of one byte; its name is then
 //! printed. The talks are in a file, not in code, because test code is proved and the lines of a file are not.
 #![tactic(auto)]
 
+mod direct;
 mod expected;
 mod patterns;
 mod run;

@@ -1,4 +1,5 @@
 // A talk: requests with their expected replies, and the settings they run with.
+use crate::direct::is_executed;
 use crate::expected::End;
 use crate::patterns::Round;
 use crate::run::{Talking, comes_to, is_answered, is_answered_in_two};
@@ -17,6 +18,8 @@ pub(crate) struct Talk {
     end: End,
     // The expected outcome of `pipe`, if the talk calls it instead of the program.
     outcome: Option<String>,
+    // Whether the talk calls `execute` for each request instead of the program.
+    executes: bool,
     // Whether every line could be parsed.
     readable: bool,
 }
@@ -35,6 +38,7 @@ impl Talk {
             links: Vec::new(alloc),
             end: End::well(alloc),
             outcome: None,
+            executes: false,
             readable: true,
         }
     }
@@ -67,6 +71,10 @@ impl Talk {
         }
         if let Some(outcome) = line.strip_prefix("outcome ") {
             self.outcome = Some(String::from_str(self.alloc, outcome)?);
+            return Ok(true);
+        }
+        if line == "executes" {
+            self.executes = true;
             return Ok(true);
         }
         if line == "link" {
@@ -148,6 +156,9 @@ impl Talk {
         links: &[Talking],
         piece: usize,
     ) -> Result<bool, AllocError> {
+        if self.executes {
+            return is_executed(self.alloc, &self.setting, own);
+        }
         match &self.outcome {
             None => is_answered(self.alloc, &self.setting, own, links, &self.end, piece),
             Some(outcome) => comes_to(self.alloc, &self.setting, own, outcome, piece),

@@ -1,9 +1,10 @@
 -- From what a run with a journal did to what its end says.
 use Rattle.std.specs.Prelude.{Option, Ok, Err}
-use Rattle.std.proofs.Common.{◌≡◌, ◌≢◌, ◌⊎◌, inl, inr, ◌<◌, ℕ, Bool, true, false, if◌then◌else◌, List, length, take, refl, sym, ◌∙◌, ap, subst, arith, length-take}
+use Rattle.std.proofs.Common.{◌≡◌, ◌≢◌, ◌⊎◌, inl, inr, ◌<◌, ℕ, Bool, true, false, if◌then◌else◌, List, ◌∷◌, ◌++◌, length, take, refl, sym, ◌∙◌, ap, subst, arith, length-take}
 use Rattle.std.proofs.lemmas.Bool.{le-leb, lt-leb}
 use Rattle.ts_io.specs.Causes.{Rose}
 use Rattle.ts_spec.specs.State.{State, empty}
+use Rattle.ts_spec.specs.Wire.{Request}
 use Rattle.ts_spec.specs.declared.limits.Limits.{Limits}
 use Rattle.ts_db.specs.DbState.{DbState}
 use Rattle.ts_journal.specs.Limits.{IsBounded}
@@ -19,10 +20,12 @@ use Rattle.ts_engine.specs.declared.piped.End.{End}
 use Rattle.ts_engine.specs.declared.piped.End.TheVariants as end
 use Rattle.ts_engine.specs.Answered.{IsOutOfMemoryOr}
 use Rattle.ts_engine.specs.Headline.{Exchange, requests}
-use Rattle.ts_engine.specs.Journaled.{JournalRun, exchange_over, PrefixReplays, GoesOn, EndsAs, IsOpened, IsUnopened, is_load_fault, Wrote, IsAnswered, HasJournalCauses, status_of, status_piped, status_loaded, status_journaled}
+use Rattle.ts_engine.specs.InputTaken.{WrittenAndTaken}
+use Rattle.ts_engine.specs.JournalPrefixes.{HandledRun, run_of, PrefixReplays, run_to_fault, ReplaysToFault}
+use Rattle.ts_engine.specs.NotJournaled.{NotJournaledTaken}
+use Rattle.ts_engine.specs.Journaled.{JournalRun, exchange_over, GoesOn, EndsAs, IsOpened, IsUnopened, is_load_fault, Wrote, IsAnswered, HasJournalCauses, status_of, status_piped, status_loaded, status_journaled}
 use Rattle.ts_engine.specs.Status as input
 use Rattle.ts_engine.proofs.Journalings.{Told, first-run, told-first, told-torn}
-use Rattle.ts_engine.proofs.PrefixReplayLemmas.{RunFront}
 
 -- ---- the content of the journal
 
@@ -34,48 +37,51 @@ module _ (run : JournalRun) (bounded : IsBounded run.seen.limits.wire) (bytes : 
   its-loads : LoadsTo run.seen.limits (take place run.journal) m
   its-loads = whole-loads run.seen.limits run.journal m place loads ∙ ap (λ (n : ℕ). Loads m n) (sym its-size)
 
-  -- a prefix of it
-  as-front : (exchange : Exchange journaled) (front : List ℕ) → RunFront run.seen.limits exchange.from (requests exchange.limits bytes) front → PrefixReplays exchange run.seen.limits bytes front
-  as-front exchange front part = record {
-    done = part.done;
-    others = part.others;
-    first = part.first;
-    text = part.text;
-    mid = part.mid;
-    run = part.run;
-    place = part.place;
-    content = part.content;
-    loads = part.loads;
-  }
-
-  goes-on : (failed : Bool) (held : DbState) (writes : Exchange journaled → Type 0) → writes (exchange_over run m place failed held)
-      → Told run.seen.limits (exchange_over run m place failed held).from (requests run.seen.limits.wire bytes) (length (take place run.journal)) run.journal_left → GoesOn run bytes failed writes
-  goes-on failed held writes written told = record {
+  goes-on : (failed : Bool) (held : DbState) (writes : Exchange journaled → Type 0) (handled : (exchange : Exchange journaled) → writes exchange → HandledRun)
+      (replays : (exchange : Exchange journaled) → writes exchange → List ℕ → Type 0) (written : writes (exchange_over run m place failed held)) (others : List Request)
+      → requests run.seen.limits.wire bytes ≡ (handled (exchange_over run m place failed held) written).asked ++ others
+      → Told run.seen.limits (take place run.journal) (replays (exchange_over run m place failed held) written) run.journal_left → GoesOn run bytes failed writes handled replays
+  goes-on failed held writes handled replays written others first told = record {
     loaded = m;
     place = place;
     loads = loads;
     held = held;
     written = written;
+    others = others;
+    first = first;
     journal = told.journal;
     told = told.told;
-    replay_matches = λ n past. as-front (exchange_over run m place failed held) (take n told.journal) (told.replay_matches n (omega (arith, past, its-size)));
+    begins = ap (λ (n : ℕ). take n told.journal) (sym its-size) ∙ told.begins;
+    prefixes_load = told.prefixes_load;
+    replay_matches = λ n past. told.replay_matches n (omega (arith, past, its-size));
   }
 
-  -- the output for the input, together with the journal
-  pub did-on : (untouched : Type 0) (budget : ℕ) (left : Option (List ℕ)) (e : JournalEnd) (held : DbState) → Wrote e (λ failed. exchange_over run m place failed held) budget bytes left
-      → EndsAs run untouched budget bytes left e
-  did-on untouched budget left (ended.Answered e) held written =
+  -- the output for the input, together with the journal, which was read to its end
+  pub did-on : (untouched : Type 0) (budget : ℕ) (left : Option (List ℕ)) (e : JournalEnd) (held : DbState) → length run.journal < budget
+      → Wrote e (λ failed. exchange_over run m place failed held) budget bytes left → EndsAs run untouched budget bytes left e
+  did-on untouched budget left (ended.Answered e) held below written =
       let exchange : Exchange journaled = exchange_over run m place false held in
-      goes-on false held _ written
-      (told-first run.seen.limits bounded exchange refl bytes (take place run.journal) refl refl its-loads (first-run exchange budget bytes left e written.written))
-  did-on untouched budget left ended.AppendFault held written =
-      let exchange : Exchange journaled = exchange_over run m place true held in
-      goes-on true held _ written
-      (told-torn run.seen.limits bounded exchange refl bytes (take place run.journal) refl refl its-loads written.not_journaled)
-  did-on untouched budget left ended.LoadFault held written = absurd written
-  did-on untouched budget left (ended.Broken at) held written = absurd written
-  did-on untouched budget left ended.OverBudget held written = absurd written
-  did-on untouched budget left ended.NoMemory held written = absurd written
+      let first = first-run exchange budget bytes left e written.written in (
+        below,
+        goes-on false held (λ exchange. WrittenAndTaken exchange budget bytes left e)
+            (λ exchange written. run_of exchange budget bytes left e written.written)
+            (λ exchange written. PrefixReplays run.seen.limits exchange.from (run_of exchange budget bytes left e written.written))
+            written first.others first.first
+            (told-first run.seen.limits bounded exchange refl bytes (take place run.journal) refl refl its-loads (run_of exchange budget bytes left e written.written) first),
+      )
+  did-on untouched budget left ended.AppendFault held below written =
+      let exchange : Exchange journaled = exchange_over run m place true held in (
+        below,
+        goes-on true held (λ exchange. NotJournaledTaken exchange budget bytes left)
+            (λ exchange written. run_to_fault run.seen.limits exchange bytes written.not_journaled)
+            (λ exchange written. ReplaysToFault run.seen.limits exchange bytes written.not_journaled)
+            written (written.not_journaled.last ∷ written.not_journaled.others) written.not_journaled.first
+            (told-torn run.seen.limits bounded exchange refl bytes (take place run.journal) refl refl its-loads written.not_journaled),
+      )
+  did-on untouched budget left ended.LoadFault held below written = absurd written
+  did-on untouched budget left (ended.Broken at) held below written = absurd written
+  did-on untouched budget left ended.OverBudget held below written = absurd written
+  did-on untouched budget left ended.NoMemory held below written = absurd written
 
 -- the status for a journal shorter than the budget
 pub kept-below : (limits : Limits) (budget : ℕ) (journal bytes : List ℕ) (l : Load) → length journal < budget → load limits journal ≡ l
@@ -101,7 +107,7 @@ module _ (limits : Limits) (readings readings' between after left : Option (List
 
   pub kept-did : IsBounded limits.wire → (untouched : Type 0) → EndsAs its-run untouched budget bytes left e
   kept-did bounded untouched =
-      did-on its-run bounded bytes mid.state opened.0 opened.1 untouched budget left e to
+      did-on its-run bounded bytes mid.state opened.0 opened.1 untouched budget left e to opened.4
       (subst (λ (o : Option (List ℕ)). WroteFrom o (record { limits = limits; state = mid.state })) opened.3
       (subst (λ (h : DbState). WroteFrom between h) (held-is mid limits opened.2) answered.written))
 
@@ -116,7 +122,7 @@ pub did-not : (run : JournalRun) (untouched : Type 0) (budget : ℕ) (bytes : Li
 did-not run untouched budget bytes left (ended.Answered e) to same opened = absurd opened
 did-not run untouched budget bytes left ended.AppendFault to same opened = absurd opened
 did-not run untouched budget bytes left ended.LoadFault to same opened = (same, opened)
-did-not run untouched budget bytes left (ended.Broken place) to same opened = (opened.0, (same, opened.1))
+did-not run untouched budget bytes left (ended.Broken place) to same opened = (opened.2, opened.0, (same, opened.1))
 did-not run untouched budget bytes left ended.OverBudget to same opened = (opened.0, (same, opened.1))
 did-not run untouched budget bytes left ended.NoMemory to same opened = (same, opened)
 

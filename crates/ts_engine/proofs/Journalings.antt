@@ -14,14 +14,16 @@ use Rattle.ts_spec.proofs.StreamPrefixes.{read_on-front}
 use Rattle.ts_spec.proofs.Runs.{Runs-append, Runs-one}
 use Rattle.ts_spec.proofs.Within.{requests-within}
 use Rattle.ts_journal.specs.Limits.{IsBounded}
-use Rattle.ts_journal.specs.Loading.{load, LoadsTo}
-use Rattle.ts_execution.specs.Journaling.{Snapshot, kept, served, IsJournaled, IsTorn, journaled}
+use Rattle.ts_journal.specs.Loading.{LoadsTo, FrontLoads}
+use Rattle.ts_journal.proofs.FrontsLoad.{fronts-load}
+use Rattle.ts_execution.specs.Journaling.{Snapshot, served, IsJournaled, journaled}
 use Rattle.ts_engine.specs.declared.piped.End.{End}
 use Rattle.ts_engine.specs.declared.piped.End.TheVariants as end
 use Rattle.ts_engine.specs.Headline.{Exchange, requests, asks_to_quit, PrefixAnswered, Writes}
+use Rattle.ts_engine.specs.JournalPrefixes.{HandledRun, run_of_all, run_of, PrefixReplays, ReplaysToFault}
 use Rattle.ts_engine.specs.NotJournaled.{NotJournaled}
 use Rattle.ts_engine.proofs.Quits.{until_quit-append}
-use Rattle.ts_engine.proofs.PrefixReplayLemmas.{GrowsOn, RunFront, none-done, added-to, run-replay_matches, grows_by_turn}
+use Rattle.ts_engine.proofs.PrefixReplayLemmas.{GrowsOn, a_run, all-done, added-to, run-replay_matches, grows_by_turn}
 
 -- ---- the requests of an input
 
@@ -59,61 +61,47 @@ first-requests limits bytes front rest split none =
 
 -- ---- the run of an input
 
--- the first requests in these bytes were handled, up to the last world
-pub record FirstRun (exchange : Exchange journaled) (bytes : List ℕ) : Type 0 where
-  pub done : List Request
+-- the first requests in these bytes were handled in this run
+pub record FirstRun (exchange : Exchange journaled) (bytes : List ℕ) (done : HandledRun) : Type 0 where
   pub others : List Request
-  pub first : requests exchange.limits bytes ≡ done ++ others
-  pub text : List ℕ
-  pub run : Runs IsJournaled exchange.from done text exchange.to
+  pub first : requests exchange.limits bytes ≡ done.asked ++ others
+  pub ends : done.to ≡ exchange.to
+  pub run : Runs IsJournaled exchange.from done.asked done.text done.to
 
 module _ (exchange : Exchange journaled) (budget : ℕ) (bytes : List ℕ) (left : Option (List ℕ)) where
-  all-run : (text : List ℕ) → Runs IsJournaled exchange.from (requests exchange.limits bytes) text exchange.to → FirstRun exchange bytes
-  all-run text run = record { done = requests exchange.limits bytes; others = []; first = sym (append-nil (requests exchange.limits bytes)); text = text; run = run }
+  all-run : (text : List ℕ) → Runs IsJournaled exchange.from (requests exchange.limits bytes) text exchange.to → FirstRun exchange bytes (run_of_all exchange budget bytes left bytes text)
+  all-run text run = record { others = []; first = sym (append-nil (requests exchange.limits bytes)); ends = refl; run = run }
 
-  front-run : PrefixAnswered exchange bytes left → FirstRun exchange bytes
+  front-run : (answered : PrefixAnswered exchange bytes left) → FirstRun exchange bytes (run_of_all exchange budget bytes left answered.front answered.answered.text)
   front-run answered =
       let more = first-requests exchange.limits bytes answered.front answered.rest answered.split answered.goes_on in
-      record { done = requests exchange.limits answered.front; others = more.0; first = more.1; text = answered.answered.text; run = answered.answered.run }
+      record { others = more.0; first = more.1; ends = refl; run = answered.answered.run }
 
-  pub first-run : (e : End) → Writes exchange budget bytes left e → FirstRun exchange bytes
+  pub first-run : (e : End) (written : Writes exchange budget bytes left e) → FirstRun exchange bytes (run_of exchange budget bytes left e written)
   first-run end.Ended (inl all) = all-run all.answered.text all.answered.run
   first-run end.Ended (inr quitted) = all-run quitted.0.text quitted.0.run
   first-run (end.Truncated place) written = all-run written.answered.text written.answered.run
   first-run (end.Protocol fault) written = all-run written.0.text written.0.run
   first-run end.ReadFault written = front-run written
   first-run end.Budget written = front-run written.0
-  first-run end.Memory written = record { done = written.done; others = written.others; first = written.first; text = written.text; run = written.run }
+  first-run end.Memory written = record { others = written.others; first = written.first; ends = refl; run = written.run }
   first-run end.WriteFault (inl cut) = record {
-    done = cut.done ++ cut.last ∷ [];
     others = cut.others;
     first = cut.first ∙ sym (append_assoc cut.done (cut.last ∷ []) cut.others);
-    text = cut.text ++ cut.reply;
+    ends = refl;
     run = Runs-append IsJournaled exchange.from cut.mid exchange.to cut.done (cut.last ∷ []) cut.text cut.reply cut.run (Runs-one IsJournaled cut.mid exchange.to cut.last cut.reply cut.turned);
   }
   first-run end.WriteFault (inr cut) = all-run cut.answered.text cut.answered.run
 
 -- ---- the content of the journal, and what its prefixes load to
 
--- a prefix of the journal after the first requests is one after all requests
-widened : (limits : Limits) (from : Snapshot) (done others asked : List Request) (front : List ℕ) → asked ≡ done ++ others → RunFront limits from done front → RunFront limits from asked front
-widened limits from done others asked front split part = record {
-  done = part.done;
-  others = part.others ++ others;
-  first = split ∙ ap (λ (l : List Request). l ++ others) part.first ∙ append_assoc part.done part.others others;
-  text = part.text;
-  mid = part.mid;
-  run = part.run;
-  place = part.place;
-  content = part.content;
-  loads = part.loads;
-}
-
--- the content, and that each of its prefixes loads like this
-pub record Told (limits : Limits) (from : Snapshot) (asked : List Request) (least : ℕ) (content : Option (List ℕ)) : Type 0 where
+-- the content, what it begins with, and what its prefixes load to
+pub record Told (limits : Limits) (loaded : List ℕ) (replays : (front : List ℕ) → Type 0) (content : Option (List ℕ)) : Type 0 where
   pub journal : List ℕ
   pub told : content ≡ Some journal
-  pub replay_matches : (n : ℕ) → least ≤ n → RunFront limits from asked (take n journal)
+  pub begins : take (length loaded) journal ≡ loaded
+  pub prefixes_load : (n : ℕ) → FrontLoads limits journal n
+  pub replay_matches : (n : ℕ) → length loaded ≤ n → replays (take n journal)
 
 first-within : (limits : WireLimits) (done others : List Request) → All (IsWithin limits) (done ++ others) → All (IsWithin limits) done
 first-within limits [] others all = All-nil (IsWithin limits)
@@ -140,55 +128,48 @@ take-twice n m l = go (within-or-past n m)
         let is : min n m ≡ m = omega (arith, past) in
         take_all n (take m l) (omega (arith, past, length-take m l)) ∙ ap (λ (i : ℕ). take i l) (sym is)
 
--- what later requests did
-after-run : (limits : Limits) (from mid : Snapshot) (done asked : List Request) (text front : List ℕ) → Runs IsJournaled from done text mid → RunFront limits mid asked front → RunFront limits from (done ++ asked) front
-after-run limits from mid done asked text front run rest = record {
-  done = done ++ rest.done;
-  others = rest.others;
-  first = ap (λ (l : List Request). done ++ l) rest.first ∙ sym (append_assoc done rest.done rest.others);
-  text = text ++ rest.text;
-  mid = rest.mid;
-  run = Runs-append IsJournaled from mid rest.mid done rest.done text rest.text run rest.run;
-  place = rest.place;
-  content = rest.content;
-  loads = rest.loads;
-}
-
-module _ (limits : Limits) (from mid : Snapshot) (done others : List Request) (last : Request) (text reply : List ℕ) (run : Runs IsJournaled from done text mid) (loaded more : List ℕ) (to : Snapshot)
-    (its : mid.content ≡ Some (loaded ++ more)) (torn : IsTorn mid last reply to) (grown : GrowsOn limits (loaded ++ more) mid.held to.held torn.record_) where
+module _ (limits : Limits) (exchange : Exchange journaled) (bytes : List ℕ) (failed : NotJournaled exchange bytes) (loaded more : List ℕ) (its : failed.mid.content ≡ Some (loaded ++ more))
+    (grown : GrowsOn limits (loaded ++ more) failed.mid.held exchange.to.held failed.torn.record_) where
   -- the journal with a prefix of the last record, or all of it
-  torn-part : (m : ℕ) → (m < length torn.record_) ⊎ (length torn.record_ ≤ m) → RunFront limits mid (last ∷ others) ((loaded ++ more) ++ take m torn.record_)
-  torn-part m (inl less) =
-      none-done limits mid (last ∷ others) (loaded ++ more) ((loaded ++ more) ++ take m torn.record_) its (take-append_seam (loaded ++ more) (take m torn.record_)) (grown.1.torn m less)
-  torn-part m (inr all) = record {
-    done = last ∷ [];
-    others = others;
-    first = refl;
-    text = reply;
-    mid = kept to.readings (append_known mid.content torn.record_) mid.failed to.held;
-    run = Runs-one IsJournaled mid (kept to.readings (append_known mid.content torn.record_) mid.failed to.held) last reply
-        (record { record_ = torn.record_; recorded = torn.recorded; content = refl; failed = refl });
-    place = length ((loaded ++ more) ++ torn.record_);
-    content = ap (λ (o : Option (List ℕ)). append_known o torn.record_) its
-        ∙ ap Some (sym (ap (λ (l : List ℕ). take (length ((loaded ++ more) ++ torn.record_)) ((loaded ++ more) ++ l)) (take_all m torn.record_ all)
-        ∙ take_all (length ((loaded ++ more) ++ torn.record_)) ((loaded ++ more) ++ torn.record_) (omega arith)));
-    loads = ap (λ (l : List ℕ). load limits ((loaded ++ more) ++ l)) (take_all m torn.record_ all) ∙ grown.1.whole;
-  }
+  torn-part : (m : ℕ) → m ≤ failed.torn.kept → (m < length failed.torn.record_) ⊎ (length failed.torn.record_ ≤ m)
+      → ReplaysToFault limits exchange bytes failed ((loaded ++ more) ++ take m failed.torn.record_)
+  torn-part m few (inl less) =
+      inl (all-done limits exchange.from failed.done failed.text failed.mid (loaded ++ more) ((loaded ++ more) ++ take m failed.torn.record_) failed.run its
+      (take-append_seam (loaded ++ more) (take m failed.torn.record_)) (grown.1.torn m less))
+  torn-part m few (inr all) =
+      let record_ : List ℕ = failed.torn.record_ in
+      let whole : failed.torn.kept ≡ length record_ = omega (arith, few, all, failed.torn.within) in
+      let same : take failed.torn.kept record_ ≡ take m record_ = take_all failed.torn.kept record_ (omega (arith, whole)) ∙ sym (take_all m record_ all) in
+      inr (record {
+        whole = whole;
+        content = added-to failed.mid.content exchange.to.content (loaded ++ more) (take m record_) its
+            (failed.torn.content ∙ ap (λ (l : List ℕ). append_known failed.mid.content l) same);
+        loads = subst (λ (l : List ℕ). LoadsTo limits ((loaded ++ more) ++ l) exchange.to.held.state) (sym (take_all m record_ all)) grown.1.whole;
+      })
 
   -- a prefix that ends before the last record or in it
-  torn-fronts : ((n : ℕ) → length loaded ≤ n → RunFront limits from done (take n (loaded ++ more))) → (n : ℕ) → length loaded ≤ n → (n < length (loaded ++ more)) ⊎ (length (loaded ++ more) ≤ n)
-      → RunFront limits from (done ++ last ∷ others) (take n ((loaded ++ more) ++ take torn.kept torn.record_))
+  torn-fronts : ((n : ℕ) → length loaded ≤ n → PrefixReplays limits exchange.from (a_run failed.done failed.text failed.mid) (take n (loaded ++ more)))
+      → (n : ℕ) → length loaded ≤ n → (n < length (loaded ++ more)) ⊎ (length (loaded ++ more) ≤ n)
+      → ReplaysToFault limits exchange bytes failed (take n ((loaded ++ more) ++ take failed.torn.kept failed.torn.record_))
   torn-fronts fronts n past (inl before) =
-      subst (λ (l : List ℕ). RunFront limits from (done ++ last ∷ others) l) (sym (take-append-le n (loaded ++ more) (take torn.kept torn.record_) (omega (arith, before))))
-      (widened limits from done (last ∷ others) (done ++ last ∷ others) (take n (loaded ++ more)) refl (fronts n past))
+      inl (subst (λ (l : List ℕ). PrefixReplays limits exchange.from (a_run failed.done failed.text failed.mid) l)
+      (sym (take-append-le n (loaded ++ more) (take failed.torn.kept failed.torn.record_) (omega (arith, before)))) (fronts n past))
   torn-fronts fronts n past (inr after) =
       let k : ℕ = n - length (loaded ++ more) in
       let is : length (loaded ++ more) + k ≡ n = omega (arith, after) in
-      subst (λ (l : List ℕ). RunFront limits from (done ++ last ∷ others) l)
-      (sym (ap (λ (i : ℕ). take i ((loaded ++ more) ++ take torn.kept torn.record_)) (sym is) ∙ take-append-add (loaded ++ more) (take torn.kept torn.record_) k
-      ∙ ap (λ (l : List ℕ). (loaded ++ more) ++ l) (take-twice k torn.kept torn.record_)))
-      (after-run limits from mid done (last ∷ others) text ((loaded ++ more) ++ take (min k torn.kept) torn.record_) run
-      (torn-part (min k torn.kept) (within-or-past (min k torn.kept) (length torn.record_))))
+      subst (λ (l : List ℕ). ReplaysToFault limits exchange bytes failed l)
+      (sym (ap (λ (i : ℕ). take i ((loaded ++ more) ++ take failed.torn.kept failed.torn.record_)) (sym is)
+      ∙ take-append-add (loaded ++ more) (take failed.torn.kept failed.torn.record_) k
+      ∙ ap (λ (l : List ℕ). (loaded ++ more) ++ l) (take-twice k failed.torn.kept failed.torn.record_)))
+      (torn-part (min k failed.torn.kept) (omega arith) (within-or-past (min k failed.torn.kept) (length failed.torn.record_)))
+
+  -- each prefix of the journal loads
+  torn-load : (failed.torn.kept < length failed.torn.record_) ⊎ (length failed.torn.record_ ≤ failed.torn.kept) → (n : ℕ)
+      → FrontLoads limits ((loaded ++ more) ++ take failed.torn.kept failed.torn.record_) n
+  torn-load (inl less) = fronts-load limits ((loaded ++ more) ++ take failed.torn.kept failed.torn.record_) failed.mid.held.state (length (loaded ++ more)) (grown.1.torn failed.torn.kept less)
+  torn-load (inr all) =
+      subst (λ (l : List ℕ). (n : ℕ) → FrontLoads limits ((loaded ++ more) ++ l) n) (sym (take_all failed.torn.kept failed.torn.record_ all))
+      (fronts-load limits ((loaded ++ more) ++ failed.torn.record_) exchange.to.held.state (length ((loaded ++ more) ++ failed.torn.record_)) grown.1.whole)
 
 module _ (limits : Limits) (bounded : IsBounded limits.wire) (exchange : Exchange journaled) (same : exchange.limits ≡ limits.wire) (bytes loaded : List ℕ)
     (its_limits : exchange.from.held.limits ≡ limits) (its_content : exchange.from.content ≡ Some loaded) (loads : LoadsTo limits loaded exchange.from.held.state) where
@@ -197,30 +178,33 @@ module _ (limits : Limits) (bounded : IsBounded limits.wire) (exchange : Exchang
       first-within limits.wire done others (subst (λ (l : List Request). All (IsWithin limits.wire) l) split
       (subst (λ (w : WireLimits). All (IsWithin w) (requests exchange.limits bytes)) same (input-within exchange.limits bytes)))
 
-  pub told-first : FirstRun exchange bytes → Told limits exchange.from (requests exchange.limits bytes) (length loaded) exchange.to.content
-  told-first first =
-      let done = run-replay_matches limits bounded first.done loaded exchange.from exchange.to first.text (asked-within first.done first.others first.first) its_limits its_content loads first.run in
+  pub told-first : (run : HandledRun) → FirstRun exchange bytes run → Told limits loaded (PrefixReplays limits exchange.from run) exchange.to.content
+  told-first run first =
+      let done = run-replay_matches limits bounded run.asked loaded exchange.from run.to run.text (asked-within run.asked first.others first.first) its_limits its_content loads first.run in
       record {
         journal = loaded ++ done.more;
-        told = done.content;
-        replay_matches = λ n past. widened limits exchange.from first.done first.others (requests exchange.limits bytes) (take n (loaded ++ done.more)) first.first (done.fronts n past);
+        told = ap (λ (s : Snapshot). s.content) (sym first.ends) ∙ done.content;
+        begins = take-append_seam loaded done.more;
+        prefixes_load = fronts-load limits (loaded ++ done.more) run.to.held.state (length (loaded ++ done.more)) done.loads;
+        replay_matches = done.fronts;
       }
 
   -- the journal failed within the next record
-  pub told-torn : NotJournaled exchange bytes → Told limits exchange.from (requests exchange.limits bytes) (length loaded) exchange.to.content
-  told-torn not_journaled =
-      let all : List Request = not_journaled.done ++ not_journaled.last ∷ not_journaled.others in
-      let within : All (IsWithin limits.wire) all = asked-within all [] (not_journaled.first ∙ sym (append-nil all)) in
-      let done = run-replay_matches limits bounded not_journaled.done loaded exchange.from not_journaled.mid not_journaled.text (first-within limits.wire not_journaled.done (not_journaled.last ∷ not_journaled.others) within)
-      its_limits its_content loads not_journaled.run in
-      let torn : IsTorn not_journaled.mid not_journaled.last not_journaled.reply exchange.to = not_journaled.torn in
+  pub told-torn : (failed : NotJournaled exchange bytes) → Told limits loaded (ReplaysToFault limits exchange bytes failed) exchange.to.content
+  told-torn failed =
+      let all : List Request = failed.done ++ failed.last ∷ failed.others in
+      let within : All (IsWithin limits.wire) all = asked-within all [] (failed.first ∙ sym (append-nil all)) in
+      let done = run-replay_matches limits bounded failed.done loaded exchange.from failed.mid failed.text (first-within limits.wire failed.done (failed.last ∷ failed.others) within)
+      its_limits its_content loads failed.run in
+      let record_ : List ℕ = failed.torn.record_ in
+      let kept : ℕ = failed.torn.kept in
       let journal : List ℕ = loaded ++ done.more in
-      let grown = grows_by_turn limits bounded journal not_journaled.last (served not_journaled.mid) (served exchange.to) not_journaled.reply torn.record_
-      (last-within limits.wire not_journaled.done not_journaled.last not_journaled.others within) done.limits_stay done.loads torn.recorded in
+      let grown = grows_by_turn limits bounded journal failed.last (served failed.mid) (served exchange.to) failed.reply record_
+      (last-within limits.wire failed.done failed.last failed.others within) done.limits_stay done.loads failed.torn.recorded in
       record {
-        journal = journal ++ take torn.kept torn.record_;
-        told = added-to not_journaled.mid.content exchange.to.content journal (take torn.kept torn.record_) done.content torn.content;
-        replay_matches = λ n past. subst (λ (l : List Request). RunFront limits exchange.from l (take n (journal ++ take torn.kept torn.record_))) (sym not_journaled.first)
-            (torn-fronts limits exchange.from not_journaled.mid not_journaled.done not_journaled.others not_journaled.last not_journaled.text not_journaled.reply not_journaled.run loaded done.more exchange.to done.content torn grown done.fronts n past
-            (within-or-past n (length journal)));
+        journal = journal ++ take kept record_;
+        told = added-to failed.mid.content exchange.to.content journal (take kept record_) done.content failed.torn.content;
+        begins = ap (take (length loaded)) (append_assoc loaded done.more (take kept record_)) ∙ take-append_seam loaded (done.more ++ take kept record_);
+        prefixes_load = torn-load limits exchange bytes failed loaded done.more done.content grown (within-or-past kept (length record_));
+        replay_matches = λ n past. torn-fronts limits exchange bytes failed loaded done.more done.content grown done.fronts n past (within-or-past n (length journal));
       }

@@ -23,6 +23,7 @@ use Rattle.ts_journal.proofs.Grown.{Grows, record-grown}
 use Rattle.ts_journal.proofs.Unrecorded.{unrecorded-stays}
 use Rattle.ts_execution.specs.Journaling.{Snapshot, served, IsUnrecorded, IsRecorded, RecordedBy, Recorded, IsJournaled}
 use Rattle.ts_execution.specs.Handling.{World, IsAnswered, RunsOutOfMemory, IsOutOfMemory}
+use Rattle.ts_engine.specs.JournalPrefixes.{HandledRun, PrefixReplays}
 use Rattle.ts_engine.proofs.Executions.{is-done, limits-stay}
 
 -- ---- one request
@@ -96,54 +97,70 @@ module _ (limits : Limits) (bounded : IsBounded limits.wire) (journal : List ℕ
 
 -- ---- a run of requests
 
--- a prefix of the journal loads to the database after the first of these requests
-pub record RunFront (limits : Limits) (from : Snapshot) (asked : List Request) (front : List ℕ) : Type 0 where
-  pub done : List Request
-  pub others : List Request
-  pub first : asked ≡ done ++ others
-  pub text : List ℕ
-  pub mid : Snapshot
-  pub run : Runs IsJournaled from done text mid
-  pub place : ℕ
-  pub content : mid.content ≡ Some (take place front)
-  pub loads : load limits front ≡ Loads mid.held.state place
+-- the run of these requests
+abbrev pub a_run : List Request → (text : List ℕ) → Snapshot → HandledRun
+a_run asked text to = record { asked = asked; text = text; to = to }
 
 -- the journal after a run, and what it and its prefixes load to
-pub record Restores (limits : Limits) (journal : List ℕ) (from : Snapshot) (asked : List Request) (to : Snapshot) : Type 0 where
+pub record Restores (limits : Limits) (journal : List ℕ) (from : Snapshot) (asked : List Request) (text : List ℕ) (to : Snapshot) : Type 0 where
   pub more : List ℕ
   pub content : to.content ≡ Some (journal ++ more)
   pub limits_stay : to.held.limits ≡ limits
   pub loads : LoadsTo limits (journal ++ more) to.held.state
-  pub fronts : (n : ℕ) → length journal ≤ n → RunFront limits from asked (take n (journal ++ more))
+  pub fronts : (n : ℕ) → length journal ≤ n → PrefixReplays limits from (a_run asked text to) (take n (journal ++ more))
 
 -- no request has its record in it
-pub none-done : (limits : Limits) (from : Snapshot) (asked : List Request) (journal front : List ℕ) → from.content ≡ Some journal → take (length journal) front ≡ journal
-    → load limits front ≡ Loads from.held.state (length journal) → RunFront limits from asked front
-none-done limits from asked journal front told is loads = record {
+none-done : (limits : Limits) (from : Snapshot) (asked : List Request) (text : List ℕ) (to : Snapshot) (journal front : List ℕ) → Runs IsJournaled from asked text to
+    → from.content ≡ Some journal → take (length journal) front ≡ journal → load limits front ≡ Loads from.held.state (length journal) → PrefixReplays limits from (a_run asked text to) front
+none-done limits from asked text to journal front run told is loads = record {
   done = [];
-  others = asked;
-  first = refl;
+  more = asked;
+  asked = refl;
   text = [];
+  rest = text;
+  replies = refl;
   mid = from;
-  run = (refl, refl);
+  before = (refl, refl);
+  after = run;
+  place = length journal;
+  content = told ∙ ap Some (sym is);
+  loads = loads;
+}
+
+-- each request has its record in it
+pub all-done : (limits : Limits) (from : Snapshot) (asked : List Request) (text : List ℕ) (to : Snapshot) (journal front : List ℕ) → Runs IsJournaled from asked text to
+    → to.content ≡ Some journal → take (length journal) front ≡ journal → load limits front ≡ Loads to.held.state (length journal) → PrefixReplays limits from (a_run asked text to) front
+all-done limits from asked text to journal front run told is loads = record {
+  done = asked;
+  more = [];
+  asked = sym (append-nil asked);
+  text = text;
+  rest = [];
+  replies = sym (append-nil text);
+  mid = to;
+  before = run;
+  after = (refl, refl);
   place = length journal;
   content = told ∙ ap Some (sym is);
   loads = loads;
 }
 
 -- one request before others
-one-more : (limits : Limits) (from mid : Snapshot) (request : Request) (asked : List Request) (written front : List ℕ) → IsJournaled from request written mid → RunFront limits mid asked front
-    → RunFront limits from (request ∷ asked) front
-one-more limits from mid request asked written front turned rest = record {
-  done = request ∷ rest.done;
-  others = rest.others;
-  first = ap (λ (l : List Request). request ∷ l) rest.first;
-  text = written ++ rest.text;
-  mid = rest.mid;
-  run = record { first = written; rest = rest.text; mid = mid; split = refl; here = turned; after = rest.run };
-  place = rest.place;
-  content = rest.content;
-  loads = rest.loads;
+one-more : (limits : Limits) (from mid : Snapshot) (request : Request) (asked : List Request) (written rest text : List ℕ) (to : Snapshot) (front : List ℕ) → text ≡ written ++ rest
+    → IsJournaled from request written mid → PrefixReplays limits mid (a_run asked rest to) front → PrefixReplays limits from (a_run (request ∷ asked) text to) front
+one-more limits from mid request asked written rest text to front split turned part = record {
+  done = request ∷ part.done;
+  more = part.more;
+  asked = ap (λ (l : List Request). request ∷ l) part.asked;
+  text = written ++ part.text;
+  rest = part.rest;
+  replies = split ∙ ap (λ (l : List ℕ). written ++ l) part.replies ∙ sym (append_assoc written part.text part.rest);
+  mid = part.mid;
+  before = record { first = written; rest = part.text; mid = mid; split = refl; here = turned; after = part.before };
+  after = part.after;
+  place = part.place;
+  content = part.content;
+  loads = part.loads;
 }
 
 -- what was appended, if the content is known
@@ -152,22 +169,22 @@ added-to content content' journal added told is = is ∙ ap (λ (o : Option (Lis
 
 module _ (limits : Limits) (bounded : IsBounded limits.wire) where
   -- a prefix that ends within the first record or past it
-  fronts-by : (journal added more : List ℕ) (from mid : Snapshot) (request : Request) (asked : List Request) (written : List ℕ) → IsJournaled from request written mid
-      → from.content ≡ Some journal → Grows limits journal from.held.state mid.held.state added
-      → ((n : ℕ) → length (journal ++ added) ≤ n → RunFront limits mid asked (take n ((journal ++ added) ++ more)))
-      → (n : ℕ) → length journal ≤ n → (n < length (journal ++ added)) ⊎ (length (journal ++ added) ≤ n) → RunFront limits from (request ∷ asked) (take n ((journal ++ added) ++ more))
-  fronts-by journal added more from mid request asked written turned told grows rest n past (inl within) =
+  fronts-by : (journal added more : List ℕ) (from mid : Snapshot) (request : Request) (asked : List Request) (written rest text : List ℕ) (to : Snapshot) → text ≡ written ++ rest
+      → IsJournaled from request written mid → Runs IsJournaled from (request ∷ asked) text to → from.content ≡ Some journal → Grows limits journal from.held.state mid.held.state added
+      → ((n : ℕ) → length (journal ++ added) ≤ n → PrefixReplays limits mid (a_run asked rest to) (take n ((journal ++ added) ++ more)))
+      → (n : ℕ) → length journal ≤ n → (n < length (journal ++ added)) ⊎ (length (journal ++ added) ≤ n) → PrefixReplays limits from (a_run (request ∷ asked) text to) (take n ((journal ++ added) ++ more))
+  fronts-by journal added more from mid request asked written rest text to split turned run told grows fronts n past (inl within) =
       let k : ℕ = n - length journal in
       let is : length journal + k ≡ n = omega (arith, past) in
       let shorter : take n ((journal ++ added) ++ more) ≡ journal ++ take k added =
       take-append-le n (journal ++ added) more (omega (arith, within)) ∙ ap (λ (i : ℕ). take i (journal ++ added)) (sym is) ∙ take-append-add journal added k in
-      none-done limits from (request ∷ asked) journal (take n ((journal ++ added) ++ more)) told (ap (take (length journal)) shorter ∙ take-append_seam journal (take k added))
+      none-done limits from (request ∷ asked) text to journal (take n ((journal ++ added) ++ more)) run told (ap (take (length journal)) shorter ∙ take-append_seam journal (take k added))
       (ap (load limits) shorter ∙ grows.torn k (omega (arith, within, past, length-append journal added)))
-  fronts-by journal added more from mid request asked written turned told grows rest n past (inr beyond) =
-      one-more limits from mid request asked written (take n ((journal ++ added) ++ more)) turned (rest n beyond)
+  fronts-by journal added more from mid request asked written rest text to split turned run told grows fronts n past (inr beyond) =
+      one-more limits from mid request asked written rest text to (take n ((journal ++ added) ++ more)) split turned (fronts n beyond)
 
   pub run-replay_matches : (asked : List Request) (journal : List ℕ) (from to : Snapshot) (text : List ℕ) → All (IsWithin limits.wire) asked → from.held.limits ≡ limits → from.content ≡ Some journal
-      → LoadsTo limits journal from.held.state → Runs IsJournaled from asked text to → Restores limits journal from asked to
+      → LoadsTo limits journal from.held.state → Runs IsJournaled from asked text to → Restores limits journal from asked text to
   run-replay_matches [] journal from to text within same told loads run = record {
     more = [];
     content = ap (λ (k : Snapshot). k.content) run.1 ∙ told ∙ ap Some (sym (append-nil journal));
@@ -175,7 +192,7 @@ module _ (limits : Limits) (bounded : IsBounded limits.wire) where
     loads = subst (λ (k : Snapshot). LoadsTo limits (journal ++ []) k.held.state) (sym run.1) (subst (λ (l : List ℕ). LoadsTo limits l from.held.state) (sym (append-nil journal)) loads);
     fronts = λ n past.
         let is : take n (journal ++ []) ≡ journal = ap (take n) (append-nil journal) ∙ take_all n journal past in
-        none-done limits from [] journal (take n (journal ++ [])) told (ap (take (length journal)) is ∙ take_all (length journal) journal (omega arith)) (ap (load limits) is ∙ loads);
+        none-done limits from [] text to journal (take n (journal ++ [])) run told (ap (take (length journal)) is ∙ take_all (length journal) journal (omega arith)) (ap (load limits) is ∙ loads);
   }
   run-replay_matches (request ∷ asked) journal from to text within same told loads run =
       let grown = grows_by_turn limits bounded journal request (served from) (served run.mid) run.first run.here.record_ (All-head (IsWithin limits.wire) request asked within) same loads run.here.recorded in
@@ -188,8 +205,8 @@ module _ (limits : Limits) (bounded : IsBounded limits.wire) where
         content = rest.content ∙ ap Some (sym all);
         limits_stay = rest.limits_stay;
         loads = subst (λ (l : List ℕ). LoadsTo limits l to.held.state) (sym all) rest.loads;
-        fronts = λ n past. subst (λ (l : List ℕ). RunFront limits from (request ∷ asked) (take n l)) (sym all)
-            (fronts-by journal added rest.more from run.mid request asked run.first run.here told grown.1 rest.fronts n past (below-or-not n (length (journal ++ added))));
+        fronts = λ n past. subst (λ (l : List ℕ). PrefixReplays limits from (a_run (request ∷ asked) text to) (take n l)) (sym all)
+            (fronts-by journal added rest.more from run.mid request asked run.first run.rest text to run.split run.here run told grown.1 rest.fronts n past (below-or-not n (length (journal ++ added))));
       }
     where
       below-or-not : (n m : ℕ) → (n < m) ⊎ (m ≤ n)

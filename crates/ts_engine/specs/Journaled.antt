@@ -3,25 +3,26 @@
 use Rattle.std.specs.Prelude.{⊤, ◌≡◌, ◌≢◌, ◌<◌, ◌≤◌, false, true, Bool, ℕ, nat_le, if◌then◌else◌, List, ◌++◌, length, take, Option, Some, Result, Ok, Err, String}
 use Rattle.std.specs.declared.alloc.Global.{Global}
 use Rattle.ts_io.specs.Causes.{Rose}
-use Rattle.ts_spec.specs.Run.{Runs}
 use Rattle.ts_spec.specs.State.{State}
 use Rattle.ts_spec.specs.Wire.{Request}
 use Rattle.ts_spec.specs.declared.limits.Limits.{Limits}
 use Rattle.ts_spec.specs.declared.wire.WireLimits.{WireLimits}
 use Rattle.ts_db.specs.DbState.{DbState}
-use Rattle.ts_journal.specs.Loading.{Load, Loads, BreaksAt, load, load_from}
+use Rattle.ts_journal.specs.Loading.{Load, Loads, BreaksAt, load, load_from, FrontLoads}
 use Rattle.ts_words.specs.declared.mode.Mode.TheVariants as mode
 use Rattle.ts_words.specs.declared.status.Status.{Status}
 use Rattle.ts_words.specs.declared.status.Status.TheVariants as status
-use Rattle.ts_execution.specs.Journaling.{Snapshot, kept, IsJournaled, journaled}
+use Rattle.ts_execution.specs.Journaling.{kept, journaled}
 use Rattle.ts_engine.specs.declared.journaling.JournalEnd.{JournalEnd}
 use Rattle.ts_engine.specs.declared.journaling.JournalEnd.TheVariants as end
+use Rattle.ts_engine.specs.declared.piped.End.{End}
 use Rattle.ts_engine.specs.declared.piped.End.TheVariants as piped
 use Rattle.ts_engine.specs.Answered.{IsOutOfMemoryOr}
 use Rattle.ts_engine.specs.Asked.{asked}
 use Rattle.ts_engine.specs.Headline.{Exchange, RunView, requests, asks_to_quit, ending}
 use Rattle.ts_engine.specs.Status as input
 use Rattle.ts_engine.specs.InputTaken.{WrittenAndTaken}
+use Rattle.ts_engine.specs.JournalPrefixes.{HandledRun, run_of, PrefixReplays, run_to_fault, ReplaysToFault}
 use Rattle.ts_engine.specs.Top.{ReportsIn, status_by, status_cut}
 use Rattle.ts_engine.specs.NotJournaled.{NotJournaledTaken}
 
@@ -67,41 +68,51 @@ exchange_over run loaded place failed held = record {
   has = run.seen.has;
 }
 
--- A prefix of the journal loads to the database after the first requests in these bytes. Its complete requests are
--- those loaded at the start and the records of these.
-pub record PrefixReplays (exchange : Exchange journaled) (limits : Limits) (bytes front : List ℕ) : Type 0 where
-  pub done : List Request
-  pub others : List Request
-  pub first : requests exchange.limits bytes ≡ done ++ others
-  pub text : List ℕ
-  pub mid : Snapshot
-  pub run : Runs IsJournaled exchange.from done text mid
-  pub place : ℕ
-  pub content : mid.content ≡ Some (take place front)
-  pub loads : load limits front ≡ Loads mid.held.state place
-
--- The journal was loaded and truncated after its last complete request, and the input was answered. Each longer prefix
--- of the final journal loads to the database after a prefix of the requests.
-pub record GoesOn (run : JournalRun) (bytes : List ℕ) (failed : Bool) (writes : Exchange journaled → Type 0) : Type 0 where
+-- The journal was loaded and truncated after its last complete request, and the input was answered. The final journal
+-- begins with what was loaded. Each prefix of it loads; one that contains what was loaded loads to a database within the
+-- run whose replies were written.
+pub record GoesOn (run : JournalRun) (bytes : List ℕ) (failed : Bool) (writes : Exchange journaled → Type 0) (handled : (exchange : Exchange journaled) → writes exchange → HandledRun) (replays : (exchange : Exchange journaled) → writes exchange → (front : List ℕ) → Type 0) : Type 0 where
   pub loaded : State
   pub place : ℕ
   pub loads : load run.seen.limits run.journal ≡ Loads loaded place
   pub held : DbState
   pub written : writes (exchange_over run loaded place failed held)
+  pub others : List Request
+  pub first : requests run.seen.limits.wire bytes ≡ (handled (exchange_over run loaded place failed held) written).asked ++ others
   pub journal : List ℕ
   pub told : run.journal_left ≡ Some journal
-  pub replay_matches : (n : ℕ) → place ≤ n → PrefixReplays (exchange_over run loaded place failed held) run.seen.limits bytes (take n journal)
+  pub begins : take place journal ≡ take place run.journal
+  pub prefixes_load : (n : ℕ) → FrontLoads run.seen.limits journal n
+  pub replay_matches : (n : ℕ) → place ≤ n → replays (exchange_over run loaded place failed held) written (take n journal)
 
 -- what the run did, by how it ended; it either answered the input, or changed nothing and left the journal as it was
 module _ (run : JournalRun) (untouched : Type 0) (budget : ℕ) (bytes : List ℕ) (left : Option (List ℕ)) where
   abbrev pub Untouched : Type 0
   Untouched = untouched × (run.journal_left ≡ Some run.journal)
 
+  -- the journal was read to its end
+  abbrev pub IsReadWhole : Type 0
+  IsReadWhole = length run.journal < budget
+
+  -- the journal was loaded, and the input ended like this
+  abbrev pub GoesOnTo : End → Type 0
+  GoesOnTo e =
+      GoesOn run bytes false (λ exchange. WrittenAndTaken exchange budget bytes left e)
+      (λ exchange written. run_of exchange budget bytes left e written.written)
+      (λ exchange written. PrefixReplays run.seen.limits exchange.from (run_of exchange budget bytes left e written.written))
+
+  -- the journal was loaded, but later a record could not be appended
+  abbrev pub GoesOnToFault : Type 0
+  GoesOnToFault =
+      GoesOn run bytes true (λ exchange. NotJournaledTaken exchange budget bytes left)
+      (λ exchange written. run_to_fault run.seen.limits exchange bytes written.not_journaled)
+      (λ exchange written. ReplaysToFault run.seen.limits exchange bytes written.not_journaled)
+
   abbrev pub EndsAs : JournalEnd → Type 0
-  EndsAs (end.Answered e) = GoesOn run bytes false (λ exchange. WrittenAndTaken exchange budget bytes left e)
-  EndsAs end.AppendFault = GoesOn run bytes true (λ exchange. NotJournaledTaken exchange budget bytes left)
+  EndsAs (end.Answered e) = IsReadWhole × GoesOnTo e
+  EndsAs end.AppendFault = IsReadWhole × GoesOnToFault
   EndsAs end.LoadFault = Untouched
-  EndsAs (end.Broken place) = (load run.seen.limits run.journal ≡ BreaksAt place) × Untouched
+  EndsAs (end.Broken place) = IsReadWhole × (load run.seen.limits run.journal ≡ BreaksAt place) × Untouched
   EndsAs end.OverBudget = (budget ≤ length run.journal) × Untouched
   EndsAs end.NoMemory = Untouched
 

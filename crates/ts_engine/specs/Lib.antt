@@ -6,6 +6,8 @@ pub mod Generated
 pub mod SessionEnd
 pub mod Headline
 pub mod Journaled
+pub mod JournalAppends
+pub mod JournalPrefixes
 pub mod Piping
 pub mod CaptureSteps
 pub mod CaptureView

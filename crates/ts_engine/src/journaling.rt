@@ -1,23 +1,17 @@
 // A run with a journal: how it ends, and the request handler that appends records.
-ghost use Rattle.std.specs.Prelude.{◌≡◌, ◌≤◌, List, ℕ, false, OnOk, OnErr, Option};
-ghost use Rattle.std.specs.Io.KnownBytes.{append_known};
-ghost use Rattle.ts_io.specs.Causes.{HasCause};
-ghost use Rattle.ts_io.specs.Logs.{AppendsPrefix};
+ghost use Rattle.std.specs.Prelude.{◌≡◌, ◌≤◌, List, ℕ, false, Option};
 ghost use Rattle.ts_db.specs.DbState.{Simulates};
 ghost use Rattle.ts_execution.specs.Journaling.{journal_handler, kept};
 ghost use Rattle.ts_execution.specs.Limits.{CanRead};
-ghost use Rattle.ts_execution.specs.Recording.{record_bytes};
 ghost use Rattle.ts_engine.specs.Piping.{PipedWith, HasCausesWith};
 ghost use Rattle.ts_engine.specs.Journaled as journaled;
 
 use crate::piped::{End, Outcome, pipe_with};
 use std::alloc::Global;
-use std::mem;
 use std::sync::ledger::Ledger;
 use ts_db::{Db, Hints};
-use ts_execution::{Handler, handle_recorded};
-use ts_io::{Clock, Failed, Log, Sink, Source, append_all_counted, write_all_counted};
-use ts_journal::Record;
+use ts_execution::Handler;
+use ts_io::{Clock, Failed, Log, Sink, Source, write_all_counted};
 use ts_resp::{Out, WireLimits, Word};
 use ts_sample::Steps;
 use ts_words::Status;
@@ -96,26 +90,11 @@ impl<J: Log> Handler for Journaled<'_, J> {
         out: &mut K,
         steps: &mut Steps<L>,
     ) -> Result<bool, Failed> {
-        let alloc = *words.allocator();
-        let taken = handle_recorded(
-            alloc,
-            db,
-            hints,
-            mem::replace(words, Vec::new(alloc)),
-            clock,
-            room,
-            steps,
-        );
-        let text = room.bytes();
-        match append_record(self.log, taken.entry, text) {
-            Ok(()) => {}
-            Err(failed) => {
-                self.failed = true;
-                return Err(failed);
-            }
-        }
-        match write_all_counted(out, text) {
-            Ok(()) => Ok(taken.quits),
+        match self.execute_and_append(db, hints, words, clock, room, steps) {
+            Ok(quits) => match write_all_counted(out, room.bytes()) {
+                Ok(()) => Ok(quits),
+                Err(failed) => Err(failed),
+            },
             Err(failed) => Err(failed),
         }
     }
@@ -157,22 +136,5 @@ pub(crate) fn pipe_journaled<S: Source, K: Sink, C: Clock, J: Log>(
     JournaledOutcome {
         outcome,
         failed: handler.failed,
-    }
-}
-
-// Appends a record to the journal, given the reply's text.
-fn append_record<J: Log>(log: &mut J, entry: Option<Record>, reply: &[u8]) -> Result<(), Failed>
-    ensures all { OnOk result (J.content log.new ≡ append_known (J.content log.old) (record_bytes entry reply.now)) }
-    ensures front { OnErr result
-        (AppendsPrefix (J.content log.old) (J.content log.new) (record_bytes entry reply.now)) }
-    ensures place { J.place log.new ≡ J.place log.old }
-    ensures cause { HasCause (J.faults log.old) (J.faults log.new) result }
-{
-    match entry {
-        Some(entry) => {
-            let mut entry = entry;
-            append_all_counted(log, entry.bytes(reply))
-        }
-        None => append_all_counted(log, &[]),
     }
 }

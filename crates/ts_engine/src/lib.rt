@@ -2,6 +2,7 @@
 #![tactic(auto)]
 
 mod address;
+mod appending;
 mod capture;
 mod capture_run;
 mod capture_session;

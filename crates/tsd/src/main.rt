@@ -2,10 +2,15 @@
 //! `ts_engine`, and exits with the status that it returns.
 #![tactic(auto)]
 
-ghost use Rattle.std.specs.Prelude.{◌≡◌, ◌≤◌, ◌^◌, ℕ, false, List, Some, IfOk};
+ghost use Rattle.std.specs.Prelude.{◌≡◌, ◌≤◌, ◌^◌, ℕ, false, List, None, Some, IfOk};
 ghost use Rattle.ts_spec.specs.Limits.{usual};
+ghost use Rattle.ts_words.specs.declared.mode.Mode.TheVariants.{Serve, Gen};
+ghost use Rattle.ts_engine.specs.Asked.{asked, Connections};
+ghost use Rattle.ts_engine.specs.Captured.{IsMux, Captured};
+ghost use Rattle.ts_engine.specs.Generated.{Workload};
 ghost use Rattle.ts_engine.specs.Headline.{RunView};
-ghost use Rattle.ts_engine.specs.Top.{IsPipe, Headline};
+ghost use Rattle.ts_engine.specs.Journaled.{IsKeep, Journaled};
+ghost use Rattle.ts_engine.specs.Top.{IsPipe, Headline, Reports};
 
 use std::alloc::Global;
 use std::io::ErrorKind;
@@ -49,7 +54,7 @@ fn run(rt: &HostRuntime) -> io::Result<u8>
     Ok(status.code())
 }
 
-/// Runs `top` with the limits and the budget of the program.
+/// Runs `top` with the limits and the budget of the program. `top` says what each mode does.
 fn answer<S: Source, K: Sink, E: Sink, C: Clock, N: Listener, J: Log>(
     alloc: Global,
     words: &[String],
@@ -61,9 +66,41 @@ fn answer<S: Source, K: Sink, E: Sink, C: Clock, N: Listener, J: Log>(
     log: &mut J,
 ) -> Status
     requires { N.has_open_link net.old ≡ false }
-    ensures { IsPipe words.now → (bytes : List ℕ) → S.left input.old ≡ Some bytes → Headline
+
+    // pipe: the output is the replies to the requests in the input.
+    ensures headline { IsPipe words.now → (bytes : List ℕ) → S.left input.old ≡ Some bytes → Headline
         (record { limits = usual; readings = C.readings clock.old; readings_left = C.readings clock.new; had = K.has out.old; has = K.has out.new })
         (2 ^ 60) bytes (S.left input.new) (E.has err.old) (E.has err.new) result }
+
+    // serve: the connections are served one after another, on one database.
+    ensures served { (links : ℕ) → asked words.now ≡ Some (Serve links) → Connections
+        (record { left = N.In.left; reads = N.In.faults; has = N.Out.has; writes = N.Out.faults })
+        (record { limits = usual; readings = C.readings clock.old; readings_left = C.readings clock.new; had = K.has out.old; has = K.has out.new })
+        (2 ^ 60) links (N.coming net.old) (N.coming net.new) (N.closed net.old) (N.closed net.new) (E.has err.old)
+        (E.has err.new) result }
+
+    // gen: the output is the summary of the workload's run.
+    ensures generated { (seed n : ℕ) → asked words.now ≡ Some (Gen seed n)
+        → Workload usual seed n (K.has out.old) (K.has out.new) (E.has err.old) (E.has err.new) result }
+
+    // keep: the input is answered on the database that the journal loads to, and the journal gets each change's record.
+    ensures journaled { IsKeep words.now → (journal bytes : List ℕ) → J.content log.old ≡ Some journal
+        → S.left input.old ≡ Some bytes → Journaled
+        (record {
+          seen = record { limits = usual; readings = C.readings clock.old; readings_left = C.readings clock.new; had = K.has out.old; has = K.has out.new };
+          journal = journal;
+          journal_left = J.content log.new;
+        })
+        ((input.new ≡ input.old) × (out.new ≡ out.old) × (clock.new ≡ clock.old))
+        (2 ^ 60) bytes (S.left input.new) (E.has err.old) (E.has err.new) result }
+
+    // mux: the output has a frame with the reply to each request of the interleaved connections.
+    ensures captured { IsMux words.now → (bytes : List ℕ) → S.left input.old ≡ Some bytes → Captured
+        (record { limits = usual; readings = C.readings clock.old; readings_left = C.readings clock.new; had = K.has out.old; has = K.has out.new })
+        (2 ^ 60) bytes (S.left input.new) (E.has err.old) (E.has err.new) result }
+
+    // Invalid arguments write the usage line.
+    ensures usage { asked words.now ≡ None → Reports Status.Usage 0 result (E.has err.old) (E.has err.new) }
 {
     top(
         alloc,
