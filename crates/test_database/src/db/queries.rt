@@ -127,8 +127,14 @@ fn wrong<L: Ledger>(
 #[test]
 fn a_source(rt: HostRuntime) -> Result<(), Fail> {
     let queries = [
-        (Query::Samples(b'a', 0, 100, false), Shown::Three((3, 1), (12, 1), (25, 7))),
-        (Query::Samples(b'a', 3, 12, true), Shown::Two((3, 1), (12, 1))),
+        (
+            Query::Samples(b'a', 0, 100, false),
+            Shown::Three((3, 1), (12, 1), (25, 7)),
+        ),
+        (
+            Query::Samples(b'a', 3, 12, true),
+            Shown::Two((3, 1), (12, 1)),
+        ),
         (Query::Samples(b'a', 4, 12, false), Shown::One((12, 1))),
         (Query::Samples(b'a', 13, 24, false), Shown::Nothing),
         (Query::Samples(b'a', 12, 3, false), Shown::Nothing),
@@ -147,9 +153,18 @@ fn a_source(rt: HostRuntime) -> Result<(), Fail> {
 #[test]
 fn a_destination(rt: HostRuntime) -> Result<(), Fail> {
     let queries = [
-        (Query::Samples(b'c', 0, 100, false), Shown::Two((0, 1), (10, 1))),
-        (Query::Samples(b'c', 0, 100, true), Shown::Three((0, 1), (10, 1), (20, 7))),
-        (Query::Samples(b'c', 1, 20, true), Shown::Two((10, 1), (20, 7))),
+        (
+            Query::Samples(b'c', 0, 100, false),
+            Shown::Two((0, 1), (10, 1)),
+        ),
+        (
+            Query::Samples(b'c', 0, 100, true),
+            Shown::Three((0, 1), (10, 1), (20, 7)),
+        ),
+        (
+            Query::Samples(b'c', 1, 20, true),
+            Shown::Two((10, 1), (20, 7)),
+        ),
         (Query::Samples(b'c', 1, 19, true), Shown::One((10, 1))),
         (Query::Last(b'c', false), Shown::One((10, 1))),
         (Query::Last(b'c', true), Shown::One((20, 7))),
