@@ -1,6 +1,6 @@
-// Samples in packed chunks, in the format of the server: each sample by three numbers in groups of seven bits, which are
-// how its distance from the one before differs from the distance before, and how its value and its number of rules
-// differ from those before. A full chunk is cut by halves.
+// Samples in packed chunks, in the server's format: each sample as three numbers in groups of seven bits. They say how its
+// distance from the previous sample differs from the distance before, and how its value and its number of rules differ
+// from the previous ones. A full chunk is split in halves.
 use crate::store::{Sample, Store};
 use std::ops::Range;
 use std::slice::Iter;
@@ -8,14 +8,13 @@ use std::slice::Iter;
 /// The most bytes of a chunk.
 const LIMIT: usize = 4096;
 
-/// The bytes that a chunk begins with room for. They double up to the limit.
+/// The first capacity of a chunk in bytes. It doubles up to the limit.
 const ROOM: usize = 128;
 
 /// The most bytes of a sample: ten of its time, twelve of its value, five of its number of rules.
 const WIDEST: usize = 27;
 
-/// How many samples are coded anew after one that comes to stand before them: what is known of the samples before a
-/// third one is as it was.
+/// How many samples are coded again after an inserted one: from the third on, their coding context is unchanged.
 const ANEW: usize = 2;
 
 fn zigzag(number: i64) -> u64 {
@@ -70,7 +69,7 @@ impl Coded {
         self.put(number as u64);
     }
 
-    /// Puts a sample, and tells what is known after it.
+    /// Writes a sample, and returns the coding context after it.
     fn put_sample(&mut self, known: &Known, sample: Sample) -> Known {
         let gap = (sample.time - known.last.time) as i64;
         self.put(zigzag(gap - known.step));
@@ -83,7 +82,7 @@ impl Coded {
     }
 }
 
-/// The number that some bytes begin with, and the bytes after it.
+/// The number at the beginning of some bytes, and the bytes after it.
 #[inline]
 fn split(bytes: &[u8]) -> (u64, &[u8]) {
     match bytes {
@@ -105,7 +104,7 @@ fn split_long(mut bytes: &[u8]) -> (u64, &[u8]) {
     (number, bytes)
 }
 
-/// The difference of values that some bytes begin with, and the bytes after it. Nine bytes of it fit 64 bits.
+/// The difference of values at the beginning of some bytes, and the bytes after it. Nine bytes of it fit in 64 bits.
 #[inline]
 fn split_wide(mut bytes: &[u8]) -> (i128, &[u8]) {
     let (mut number, mut shift) = (0, 0);
@@ -124,7 +123,7 @@ fn split_wide(mut bytes: &[u8]) -> (i128, &[u8]) {
     (unzigzag_wide(u128::from(number) | u128::from(higher) << shift), rest)
 }
 
-/// What is known of the samples so far: the last one, and how far it stands from the one before it.
+/// The coding context: the last sample, and its distance from the one before it.
 #[derive(Clone, Copy, Default)]
 struct Known {
     last: Sample,
@@ -139,7 +138,7 @@ impl Known {
     }
 }
 
-/// Samples that are decoded one after another.
+/// Decodes samples one after another.
 #[derive(Clone, Copy, Default)]
 struct Decoder<'a> {
     bytes: &'a [u8],
@@ -170,7 +169,7 @@ impl<'a> Decoder<'a> {
         self.left -= 1;
     }
 
-    /// Passes the samples before a time.
+    /// Skips the samples before a time.
     fn seek(&mut self, time: u64) {
         while let Some((sample, after)) = self.peek() {
             if sample.time >= time {
@@ -192,7 +191,7 @@ impl Iterator for Decoder<'_> {
     }
 }
 
-/// Some samples, one at least, of at most so many bytes.
+/// A chunk: at least one sample, in at most a limit of bytes.
 struct Chunk {
     bytes: Vec<u8>,
     count: usize,
@@ -200,13 +199,13 @@ struct Chunk {
     known: Known,
 }
 
-/// What became of samples of a chunk that others take the place of.
+/// The result of replacing samples of a chunk.
 enum Spliced {
-    /// So many are gone.
+    /// This many were removed.
     Done(usize),
-    /// There are some, which may not go.
+    /// There are some that must not be removed.
     Taken,
-    /// The others do not fit.
+    /// The new ones do not fit.
     Full,
 }
 
@@ -228,7 +227,7 @@ impl Chunk {
         Decoder { bytes: &self.bytes, left: self.count, known: Known::default() }
     }
 
-    /// Puts a sample past the last one, where it fits.
+    /// Appends a sample, if it fits.
     fn append(&mut self, sample: Sample) -> bool {
         let mut coded = Coded::new();
         let known = coded.put_sample(&self.known, sample);
@@ -241,8 +240,8 @@ impl Chunk {
         true
     }
 
-    /// Puts a sample, if there is one, in place of those between two times, where it fits and these may go. The bytes
-    /// after them are moved.
+    /// Replaces the samples between two times by a sample, or by none, if it fits and they may be removed. The bytes after
+    /// them are moved.
     fn splice(&mut self, from: u64, to: u64, sample: Option<Sample>, over: bool) -> Spliced {
         let mut rest = self.samples();
         rest.seek(from);
@@ -271,7 +270,7 @@ impl Chunk {
         Spliced::Done(gone)
     }
 
-    /// Takes off the samples from a place on, of which there are some. All but the first few keep their bytes.
+    /// Splits off the samples from a position on, at least one. All but the first few keep their bytes.
     fn split_off(&mut self, place: usize) -> Chunk {
         let mut rest = self.samples();
         for _ in 0..place {
@@ -295,7 +294,7 @@ impl Chunk {
     }
 }
 
-/// Adds chunks of these samples: one where they fit, and else those of each half.
+/// Adds chunks of these samples: one if they fit, and else those of each half.
 fn cut(samples: &[Sample], into: &mut Vec<Chunk>) {
     let Some((&first, rest)) = samples.split_first() else {
         return;
@@ -337,14 +336,14 @@ pub struct Packed {
 }
 
 impl Packed {
-    /// Where the chunks stand that may have samples between two times.
+    /// The index range of the chunks that may have samples between two times.
     fn meeting(&self, from: u64, to: u64) -> Range<usize> {
         let start = self.chunks.partition_point(|chunk| chunk.last().time < from);
         let end = self.chunks.partition_point(|chunk| chunk.first.time <= to);
         start..end.max(start)
     }
 
-    /// Puts a sample at its time, and says whether it did.
+    /// Inserts a sample at its time, and returns whether it did.
     fn place(&mut self, sample: Sample, over: bool) -> bool {
         let late = self.chunks.last().is_some_and(|chunk| chunk.last().time >= sample.time);
         if !late {
@@ -369,7 +368,7 @@ impl Packed {
         }
     }
 
-    /// Cuts a full chunk in two, so that each gets half of the samples with this one, and puts it into its half.
+    /// Splits a full chunk so that each half gets half of the samples with this one, and inserts it into its half.
     fn place_in_half(&mut self, at: usize, sample: Sample) {
         let chunk = &mut self.chunks[at];
         let mut rest = chunk.samples();
@@ -386,7 +385,7 @@ impl Packed {
         }
     }
 
-    /// Makes a chunk anew of its samples after a change.
+    /// Rebuilds a chunk from its samples after a change.
     fn change(&mut self, at: usize, change: impl FnOnce(&mut Vec<Sample>)) {
         let mut samples: Vec<Sample> = self.chunks[at].samples().collect();
         change(&mut samples);
@@ -395,14 +394,14 @@ impl Packed {
         self.chunks.splice(at..=at, anew);
     }
 
-    /// Removes the chunks whose samples are all between two times, and tells how many samples they had.
+    /// Removes the chunks whose samples are all between two times, and returns how many samples they had.
     fn remove_whole(&mut self, from: u64, to: u64) -> usize {
         let start = self.chunks.partition_point(|chunk| chunk.first.time < from);
         let end = self.chunks.partition_point(|chunk| chunk.last().time <= to);
         self.chunks.drain(start..end.max(start)).map(|chunk| chunk.count).sum()
     }
 
-    /// Removes the samples of a chunk between two times, which are not all that it has, and tells how many there were.
+    /// Removes the samples of a chunk between two times, which are not all of its samples, and returns how many there were.
     fn remove_within(&mut self, at: usize, from: u64, to: u64) -> usize {
         if let Spliced::Done(gone) = self.chunks[at].splice(from, to, None, true) {
             return gone;

@@ -1,6 +1,6 @@
-/* Refuses each n-th allocation of a program that it is loaded into before the C library. The file that REFUSE names has
-   four numbers of 64 bits, which may be changed while the program runs: n, where 0 refuses none; how many are refused at
-   most; how many allocations there were; and how many of them were refused. */
+/* Fails every n-th allocation of a program that it is loaded into before the C library. The file that REFUSE names has
+   four numbers of 64 bits, which may be changed while the program runs: n, or 0 for none; how many allocations fail at
+   most; how many allocations there were; and how many of them failed. */
 #include <errno.h>
 #include <fcntl.h>
 #include <stddef.h>

@@ -1,4 +1,4 @@
-// How a yardstick keeps the samples of a series: this is asked of it, and here is the plain way, one ascending vector.
+// How a yardstick stores the samples of a series: the trait, and the plain way, one ascending vector.
 use std::ops::Range;
 
 #[derive(Clone, Copy, Default)]
@@ -10,7 +10,7 @@ pub struct Sample {
 
 /// Samples in ascending time.
 pub trait Store: Default {
-    /// The samples between two times, both included, in their order.
+    /// The samples between two times, both included, in ascending order.
     fn between(&self, from: u64, to: u64) -> impl Iterator<Item = Sample>;
 
     /// The same, the last one first.
@@ -19,16 +19,16 @@ pub trait Store: Default {
     /// The times of the first and the last one.
     fn ends(&self) -> Option<(u64, u64)>;
 
-    /// Adds a sample, unless its time has one.
+    /// Inserts a sample, unless its time has one.
     fn add(&mut self, sample: Sample) -> bool;
 
-    /// Adds a sample, in place of one at its time.
+    /// Inserts a sample, replacing one at its time.
     fn put(&mut self, sample: Sample);
 
-    /// Removes the samples between two times, both included, and tells how many there were.
+    /// Removes the samples between two times, both included, and returns how many there were.
     fn take_out(&mut self, from: u64, to: u64) -> usize;
 
-    /// Removes the samples at these times, which ascend.
+    /// Removes the samples at these ascending times.
     fn forget(&mut self, times: &[u64]);
 
     /// How many bytes the samples take.
@@ -83,7 +83,7 @@ impl Store for Vec<Sample> {
     }
 }
 
-/// Where a sample of this time stands, or would stand.
+/// The index of the sample at this time, or where it would be inserted.
 fn place(list: &[Sample], time: u64) -> usize {
     match list.last() {
         Some(last) if last.time >= time => list.partition_point(|s| s.time < time),
@@ -91,7 +91,7 @@ fn place(list: &[Sample], time: u64) -> usize {
     }
 }
 
-/// Where the samples between two times stand, both included.
+/// The index range of the samples between two times, both included.
 fn places(list: &[Sample], from: u64, to: u64) -> Range<usize> {
     let start = list.partition_point(|s| s.time < from);
     let end = list.partition_point(|s| s.time <= to);

@@ -1,9 +1,10 @@
 // A yardstick for `tsd pipe`: the same work in plain Rust, without crates and without proofs.
 //
-// It reads requests from standard input, at most 4096 bytes a read, checks them as the server does, and makes one write
-// for each reply. Series stand in a vector, and a BTreeMap has their numbers by their keys: their samples in an ascending
-// vector, with values in millionths, or else in packed chunks, and their labels in a vector. An index has the numbers of the
-// series with each value of each label; a question over many series looks at those of the filter with the fewest. A rule keeps a summary of its open bucket, and tells a bucket anew from the samples that stand in it.
+// It reads requests from standard input, at most 4096 bytes per read, checks them as the server does, and makes one write
+// per reply. Series are in a vector, and a BTreeMap leads from keys to their ids. A series has its samples in an ascending
+// vector, with values in millionths, or else in packed chunks, and its labels in a vector. An index has the ids of the
+// series with each value of each label, and a query over many series tests those of the most selective filter. A rule has
+// a summary of its open bucket, and computes a changed bucket again from its samples.
 // It knows
 //   TS.CREATE key
 //   TS.CREATE key LABELS label value ..
@@ -13,26 +14,26 @@
 //   TS.ADD key time value ON_DUPLICATE LAST
 //   TS.MADD key time value ..
 //   TS.DEL key from to
-//   TS.RANGE key from to [question]
-//   TS.REVRANGE key from to [question]
-//   TS.MRANGE from to [question] FILTER label=value .., where a value may be (value,..)
-//   TS.MRANGE from to [question] FILTER label=value .. GROUPBY label REDUCE avg, or max, of a question without EMPTY and
+//   TS.RANGE key from to [query]
+//   TS.REVRANGE key from to [query]
+//   TS.MRANGE from to [query] FILTER label=value .., where a value may be (value,..)
+//   TS.MRANGE from to [query] FILTER label=value .. GROUPBY label REDUCE avg, or max, of a query without EMPTY and
 //   FILTER_BY_TS
 //   TS.MGET FILTER label=value ..
 //   TS.QUERYINDEX label=value ..
-// with the words of a question
+// with the query options
 //   FILTER_BY_TS time ..
 //   FILTER_BY_VALUE least greatest
 //   AGGREGATION avg duration
-//   AGGREGATION avg duration EMPTY, of TS.RANGE and without a filter
+//   AGGREGATION avg duration EMPTY, for TS.RANGE and without a filter
 //   COUNT number
 // and for itself
-//   BYTES key    tells how many bytes the samples of a series take
+//   BYTES key    replies how many bytes the samples of a series take
 // and is run as
-//   yardstick          copies each word of a request, as the server does
-//   yardstick slices   takes the words as slices of the buffer, and copies a key only where it is new
-//   yardstick slices ADDRESS   does so for one TCP connection, and sends off what waits before each read, as the server does
-// With --packed among these words, each series is kept in packed chunks, in the server's format.
+//   yardstick          copies each argument of a request, as the server does
+//   yardstick slices   takes arguments as slices of the buffer, and copies a key only if it is new
+//   yardstick slices ADDRESS   does so for one TCP connection, and sends unsent replies before each read, as the server does
+// With --packed among these arguments, each series is stored in packed chunks, in the server's format.
 mod packed;
 mod store;
 
@@ -64,14 +65,14 @@ const MARK: &[u8] = b"-ERR Protocol error: expected '$'\r\n";
 const CRLF: &[u8] = b"-ERR Protocol error: expected CRLF\r\n";
 const TOO_LARGE: &[u8] = b"-ERR Protocol error: request too large\r\n";
 
-/// How a part of a request stands in the buffer: whole, not yet, or broken at a place.
+/// The state of a part of a request in the buffer: whole, incomplete, or broken at a position.
 enum Part<T> {
     Whole(T),
     Open,
     Broken(&'static [u8], usize),
 }
 
-/// The number of a header line after its first byte, and the place after the line.
+/// The number in a header line after its first byte, and the position after the line.
 fn header(buf: &[u8], from: usize, limit: u64, negative: bool, room: u64, kind: &'static [u8]) -> Part<(u64, usize)> {
     let mut at = from;
     let number = match buf.get(at) {
@@ -118,7 +119,7 @@ fn header(buf: &[u8], from: usize, limit: u64, negative: bool, room: u64, kind: 
     }
 }
 
-/// Where the next word stands, and the place after it.
+/// The range of the next argument, and the position after it.
 fn word(buf: &[u8], from: usize, room: u64) -> Part<(Range<usize>, usize)> {
     match buf.get(from) {
         None => return Part::Open,
@@ -139,8 +140,8 @@ fn word(buf: &[u8], from: usize, room: u64) -> Part<(Range<usize>, usize)> {
     }
 }
 
-/// The requests of a stream: bytes of it, the place of the first of them, where the request at hand begins among
-/// them, and how far it was read.
+/// The requests of a stream: some of its bytes, the position of the first of them, where the current request begins
+/// among them, and how far it was read.
 struct Reader {
     buf: Vec<u8>,
     place: u64,
@@ -152,7 +153,7 @@ struct Reader {
 }
 
 impl Reader {
-    /// Reads on until a request is whole.
+    /// Reads until a request is whole.
     fn next(&mut self) -> Part<()> {
         loop {
             match self.left {
@@ -191,13 +192,13 @@ impl Reader {
         }
     }
 
-    /// Passes over a whole request.
+    /// Skips a whole request.
     fn pass(&mut self) {
         self.words.clear();
         self.begin = self.at;
     }
 
-    /// Drops the bytes of whole requests. Called once a read.
+    /// Drops the bytes of whole requests. Called once per read.
     fn drop_front(&mut self) {
         if self.begin == 0 {
             return;
@@ -228,7 +229,7 @@ fn split_sign(text: &[u8]) -> (bool, &[u8]) {
     }
 }
 
-/// The digits that a number keeps, and how many more there were.
+/// The digits of a number that matter, and how many more there were.
 struct Digits {
     first: u128,
     dropped: usize,
@@ -305,22 +306,22 @@ fn value(text: &[u8]) -> Result<i128, &'static [u8]> {
 struct Series<S> {
     samples: S,
     labels: Vec<(Vec<u8>, Vec<u8>)>,
-    /// The highest time that it ever had a sample at.
+    /// The highest time of any sample that it ever had.
     high: Option<u64>,
-    /// How many rules were made on it.
+    /// How many rules were ever made on it.
     born: u32,
     rules: Vec<Rule>,
     is_dest: bool,
 }
 
 impl<S> Series<S> {
-    /// Whether each of these labels has one of its values here.
+    /// Whether it passes all these filters.
     fn has(&self, filters: &[Filter]) -> bool {
         filters.iter().all(|filter| self.labels.iter().any(|(name, held)| name == filter.label && filter.wants(held)))
     }
 }
 
-/// A label, and the values that are asked of it.
+/// A filter: a label and the values that pass.
 struct Filter<'a> {
     label: &'a [u8],
     values: Vec<&'a [u8]>,
@@ -332,7 +333,7 @@ impl Filter<'_> {
     }
 }
 
-/// What a write does where its time has a sample.
+/// What a write does if its time has a sample.
 #[derive(Clone, Copy)]
 enum Policy {
     Block,
@@ -344,7 +345,7 @@ struct Database<S> {
     numbers: BTreeMap<Vec<u8>, usize>,
     keys: Vec<Vec<u8>>,
     series: Vec<Series<S>>,
-    /// The numbers of the series with each value of each label, in ascending order.
+    /// The ids of the series with each value of each label, in ascending order.
     index: BTreeMap<Vec<u8>, BTreeMap<Vec<u8>, Vec<usize>>>,
 }
 
@@ -367,12 +368,12 @@ impl<S: Store> Database<S> {
         number
     }
 
-    /// The numbers of the series with the label of a filter and one of its values.
+    /// The ids of the series that pass a filter.
     fn candidates<'a>(&'a self, filter: &'a Filter<'a>) -> impl Iterator<Item = &'a Vec<usize>> {
         filter.values.iter().filter_map(|value| self.index.get(filter.label)?.get(*value))
     }
 
-    /// Writes a sample, unless its time has one that stays, and what it changes in the destinations of the series' rules.
+    /// Writes a sample, unless the policy blocks it, and updates the destinations of the series' rules.
     fn write(&mut self, number: usize, time: u64, value: i128, policy: Policy) -> bool {
         let series = &mut self.series[number];
         let sample = Sample { time, value, made: series.born };
@@ -393,7 +394,7 @@ impl<S: Store> Database<S> {
         true
     }
 
-    /// Removes the samples of an interval, and what they leave in the destinations. It tells how many there were.
+    /// Removes the samples of an interval and updates the destinations. Returns how many there were.
     fn delete(&mut self, number: usize, from: u64, to: u64) -> usize {
         let series = &mut self.series[number];
         let mut rules = take(&mut series.rules);
@@ -422,7 +423,7 @@ enum Aggregator {
     Max,
 }
 
-/// What a rule keeps of a bucket: all that either aggregator needs.
+/// The summary of a bucket: all that either aggregator needs.
 #[derive(Clone, Copy)]
 struct Summary {
     sum: i128,
@@ -439,7 +440,7 @@ impl Summary {
         self.greatest = self.greatest.max(value);
     }
 
-    /// What it comes to, where it has a value.
+    /// The aggregate, if there is one.
     fn told(&self, aggregator: Aggregator) -> Option<i128> {
         match aggregator {
             _ if self.count == 0 => None,
@@ -462,7 +463,7 @@ impl Rule {
         time - time % self.duration
     }
 
-    /// The summary of the bucket that starts here, over samples that were written since the rule was made.
+    /// The summary of the bucket with this start, over samples written since the rule was made.
     fn summary(&self, samples: &impl Store, start: u64) -> Summary {
         let mut summary = Summary::EMPTY;
         for sample in samples.between(start, start + (self.duration - 1)) {
@@ -473,13 +474,13 @@ impl Rule {
         summary
     }
 
-    /// What a bucket that has samples shows.
+    /// The row of a bucket that has samples.
     fn row(&self, start: u64, summary: Summary) -> Option<Sample> {
         let value = summary.told(self.aggregator)?;
         Some(Sample { time: start, value, made: 0 })
     }
 
-    /// Counts a sample that was written, and tells the row of the bucket that it closes, or that it came late to.
+    /// Counts a written sample. Returns the row of the bucket that it closes, or of the earlier bucket that it changes.
     fn count(&mut self, samples: &impl Store, sample: &Sample, late: bool) -> Option<Sample> {
         let start = self.start(sample.time);
         match self.open {
@@ -504,8 +505,8 @@ impl Rule {
         }
     }
 
-    /// Forgets samples that stood at these times: the closed buckets that had some, and what those still show. No more
-    /// than the first and the last can have samples left.
+    /// Removes samples at these times from the rule: the closed buckets that had some, and their rows now. Only the first
+    /// and the last can have samples left.
     fn forget(&mut self, samples: &impl Store, gone: &[u64]) -> (Vec<u64>, Vec<Sample>) {
         let mut touched: Vec<u64> = gone.iter().map(|&time| self.start(time)).collect();
         touched.dedup();
@@ -521,7 +522,7 @@ impl Rule {
     }
 }
 
-/// Puts the digits of a number in the room, found two at a time from its end.
+/// Writes the digits of a number, computed two at a time from its end.
 fn put_digits(mut number: u64, room: &mut Vec<u8>) {
     let mut digits = [0; 20];
     let mut at = 20;
@@ -539,27 +540,27 @@ fn put_digits(mut number: u64, room: &mut Vec<u8>) {
     room.extend_from_slice(&digits[at..]);
 }
 
-/// Puts a line of this kind with a number in the room.
+/// Writes a line of this kind with a number.
 fn put_line(kind: u8, number: u64, room: &mut Vec<u8>) {
     room.push(kind);
     put_digits(number, room);
     room.extend_from_slice(b"\r\n");
 }
 
-/// Puts a text of any bytes in the room, after its length.
+/// Writes a bulk string.
 fn put_bulk(text: &[u8], room: &mut Vec<u8>) {
     put_line(b'$', text.len() as u64, room);
     room.extend_from_slice(text);
     room.extend_from_slice(b"\r\n");
 }
 
-/// Puts millionths in the room as a decimal, without zeros at its end.
+/// Writes millionths as a decimal without trailing zeros.
 fn put_value(value: i128, room: &mut Vec<u8>) {
     let magnitude = value.unsigned_abs();
     if value < 0 {
         room.push(b'-');
     }
-    // Most values fit 64 bits, which are divided at a fraction of the cost of 128.
+    // Most values fit in 64 bits, which are much cheaper to divide than 128.
     let (whole, mut rest) = match u64::try_from(magnitude) {
         Ok(small) => (small / 1_000_000, (small % 1_000_000) as u32),
         Err(_) => ((magnitude / 1_000_000) as u64, (magnitude % 1_000_000) as u32),
@@ -577,7 +578,7 @@ fn put_value(value: i128, room: &mut Vec<u8>) {
     }
 }
 
-/// What is told at a time: a value, or that there is none.
+/// A value in a row, or none.
 #[derive(Clone, Copy)]
 struct Row {
     time: u64,
@@ -590,7 +591,7 @@ impl From<Sample> for Row {
     }
 }
 
-/// Puts an array of rows in the room, each as its time and its value.
+/// Writes an array of rows, each with its time and its value.
 fn put_rows(rows: impl Iterator<Item = Row>, room: &mut Vec<u8>) {
     if let (count, Some(most)) = rows.size_hint() {
         if count == most {
@@ -599,7 +600,7 @@ fn put_rows(rows: impl Iterator<Item = Row>, room: &mut Vec<u8>) {
             return;
         }
     }
-    // How many there are is known after the last one, and is put before the first one then.
+    // Their number is known after the last one, and is inserted before the first one then.
     let (start, mut count) = (room.len(), 0);
     rows.for_each(|row| {
         put_row(row, room);
@@ -689,7 +690,7 @@ fn duration(length: &[u8]) -> Result<u64, &'static [u8]> {
 const ARITY: &[u8] = b"-ERR wrong number of arguments\r\n";
 const OPTION: &[u8] = b"-ERR TSDB: invalid option\r\n";
 
-/// What is told of an interval: its samples, or the means of its buckets, of some times or values and up to a count.
+/// A query: the samples of an interval, or the means of its buckets, filtered by times or values, up to a count.
 struct Asked {
     times: Option<Vec<u64>>,
     values: Option<RangeInclusive<i128>>,
@@ -699,7 +700,7 @@ struct Asked {
 }
 
 impl Asked {
-    /// What the options of a range ask.
+    /// The query of these options.
     fn read<W: AsRef<[u8]>>(mut options: &[W]) -> Result<Asked, &'static [u8]> {
         let mut asked = Asked { times: None, values: None, duration: None, empty: false, most: usize::MAX };
         while let [name, rest @ ..] = options {
@@ -711,7 +712,7 @@ impl Asked {
         Ok(asked)
     }
 
-    /// Reads an option, and tells the words after it.
+    /// Parses an option, and returns the arguments after it.
     fn read_option<'a, W: AsRef<[u8]>>(&mut self, name: &[u8], rest: &'a [W]) -> Result<&'a [W], &'static [u8]> {
         let is = |wanted: &[u8]| name.eq_ignore_ascii_case(wanted);
         match rest {
@@ -746,7 +747,7 @@ impl Asked {
         }
     }
 
-    /// Puts what it asks of an interval in the room.
+    /// Writes its rows of an interval.
     fn put(&self, samples: &impl Store, from: u64, to: u64, room: &mut Vec<u8>) {
         match (&self.times, self.duration) {
             (Some(times), _) => {
@@ -777,7 +778,7 @@ impl Asked {
         }
     }
 
-    /// Hands each row to `take`, however many there are.
+    /// Passes each row to `take`, without a limit.
     fn each_row(&self, samples: &impl Store, from: u64, to: u64, take: impl FnMut(Row)) {
         let samples = samples.between(from, to).filter(|s| self.values.as_ref().is_none_or(|values| values.contains(&s.value)));
         match self.duration {
@@ -794,8 +795,8 @@ impl Asked {
     }
 }
 
-/// The mean of each bucket between two times, also of those without samples, but for those before the first sample of
-/// the series and after its last one.
+/// The mean of each bucket between two times, including empty ones, but not those before the first sample of the series
+/// and after its last one.
 fn with_empty<S: Store>(samples: &S, from: u64, to: u64, duration: u64) -> impl Iterator<Item = Row> + use<'_, S> {
     let (first, last) = samples.ends().map_or((1, 0), |(first, last)| (from.max(first), to.min(last)));
     let starts = if first <= last { first / duration..last / duration + 1 } else { 0..0 };
@@ -808,7 +809,7 @@ fn with_empty<S: Store>(samples: &S, from: u64, to: u64, duration: u64) -> impl 
 
 const FILTER: &[u8] = b"-ERR TSDB: invalid filter\r\n";
 
-/// A filter, which is a label and its values, cut at the first `=`.
+/// A filter: a label and its values, split at the first `=`.
 fn filter(text: &[u8]) -> Result<Filter<'_>, &'static [u8]> {
     let place = text.iter().position(|&byte| byte == b'=').ok_or(FILTER)?;
     let (label, values) = (&text[..place], &text[place + 1..]);
@@ -832,7 +833,7 @@ fn filters<W: AsRef<[u8]>>(words: &[W]) -> Result<Vec<Filter<'_>>, &'static [u8]
 /// A key, and its series.
 type Member<'a, S> = (&'a Vec<u8>, &'a Series<S>);
 
-/// The series whose labels meet all filters, in the order of their keys.
+/// The series whose labels pass all filters, in the order of their keys.
 fn select<'a, S: Store>(database: &'a Database<S>, filters: &[Filter]) -> Vec<Member<'a, S>> {
     let count = |filter: &&Filter| database.candidates(filter).map(Vec::len).sum::<usize>();
     let narrowest = filters.iter().min_by_key(count);
@@ -843,7 +844,7 @@ fn select<'a, S: Store>(database: &'a Database<S>, filters: &[Filter]) -> Vec<Me
     found.into_iter().map(|number| (&database.keys[number], &database.series[number])).collect()
 }
 
-/// The labels of a new series. One that is told twice keeps its first place and takes its last value.
+/// The labels of a new series. A repeated label keeps its first position and takes its last value.
 fn labels<W: AsRef<[u8]>>(words: &[W]) -> Result<Vec<(Vec<u8>, Vec<u8>)>, &'static [u8]> {
     let mut labels: Vec<(Vec<u8>, Vec<u8>)> = Vec::with_capacity(words.len() / 2);
     for pair in words.chunks(2) {
@@ -862,7 +863,7 @@ fn labels<W: AsRef<[u8]>>(words: &[W]) -> Result<Vec<(Vec<u8>, Vec<u8>)>, &'stat
     Ok(labels)
 }
 
-/// Whether a request was answered in the room, or the text of its refusal.
+/// A request was answered, or the text of its error.
 type Outcome = Result<(), &'static [u8]>;
 
 /// TS.CREATE, after its name.
@@ -989,14 +990,14 @@ fn range<S: Store>(words: &[impl AsRef<[u8]>], database: &Database<S>, is_backwa
     Ok(())
 }
 
-/// Series that have a value of a label, one answer for each value: their rows, reduced time by time.
+/// GROUPBY: one reply item for each value of a label, with the rows of its series reduced time by time.
 struct Group<'a> {
     label: &'a [u8],
     reducer: Aggregator,
 }
 
 impl<'a> Group<'a> {
-    /// The words after GROUPBY.
+    /// Parses the arguments after GROUPBY.
     fn read<W: AsRef<[u8]>>(words: &'a [W]) -> Result<Group<'a>, &'static [u8]> {
         match words {
             [label, reduce, reducer] if reduce.as_ref().eq_ignore_ascii_case(b"REDUCE") => {
@@ -1006,7 +1007,7 @@ impl<'a> Group<'a> {
         }
     }
 
-    /// Puts the answers in the room.
+    /// Writes the reply.
     fn put<S: Store>(&self, members: &[Member<S>], asked: &Asked, from: u64, to: u64, room: &mut Vec<u8>) -> Outcome {
         if asked.times.is_some() || asked.empty {
             return Err(OPTION);
@@ -1027,7 +1028,7 @@ impl<'a> Group<'a> {
         Ok(())
     }
 
-    /// What the rows of these series come to at each time.
+    /// The reduced rows of these series.
     fn reduced<S: Store>(&self, series: &[&Series<S>], asked: &Asked, from: u64, to: u64) -> Vec<Row> {
         let mut cells: BTreeMap<u64, Summary> = BTreeMap::new();
         for it in series {
@@ -1040,7 +1041,7 @@ impl<'a> Group<'a> {
     }
 }
 
-/// TS.MRANGE, after its name. FILTER is the last of its options but for GROUPBY.
+/// TS.MRANGE, after its name. FILTER is the last option, except for GROUPBY.
 fn many_range<S: Store>(words: &[impl AsRef<[u8]>], database: &Database<S>, room: &mut Vec<u8>) -> Outcome {
     let [from, to, options @ ..] = words else {
         return Err(ARITY);
@@ -1112,7 +1113,7 @@ fn bytes<S: Store>(words: &[impl AsRef<[u8]>], database: &Database<S>, room: &mu
     Ok(())
 }
 
-/// The reply to a request, in the room.
+/// Writes the reply to a request.
 fn answer<W: AsRef<[u8]>, S: Store>(words: &[W], database: &mut Database<S>, room: &mut Vec<u8>) -> Outcome {
     let is = |name: &W, wanted: &[u8]| name.as_ref().eq_ignore_ascii_case(wanted);
     match words {
@@ -1153,7 +1154,7 @@ fn push(link: &TcpStream) {
     let _ = link.set_nodelay(false);
 }
 
-/// How it is run.
+/// The mode it runs in.
 #[derive(Default)]
 struct Words {
     slices: bool,

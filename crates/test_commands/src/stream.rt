@@ -1,6 +1,6 @@
 // A stream of a talk, which is standard input and output or a connection, and its lines.
 use crate::patterns::{Round, Words, expand_braces};
-use crate::setting::take_list;
+use crate::setting::{Numbers, take_list};
 use crate::texts::Exchange;
 use itoa::Buffer;
 use std::alloc::{AllocError, Global};
@@ -74,8 +74,23 @@ enum Form {
     Once,
     // Once for each number.
     Each,
+    // Once for so many numbers at a time.
+    EachGroup(usize),
     // Bytes as they are.
     Bytes,
+}
+
+impl Form {
+    // The form of a line that begins with `each `, from the text after it: a number may come first. Returns the form, and
+    // the text after the number.
+    fn of_each(text: &str) -> (Form, &str) {
+        if let Some((count, rest)) = text.split_once(' ') {
+            if let Ok(count) = count.parse::<usize>() {
+                return (Form::EachGroup(count.max(1)), rest);
+            }
+        }
+        (Form::Each, text)
+    }
 }
 
 #[derive(Drop)]
@@ -86,8 +101,8 @@ pub(crate) struct Line {
 }
 
 impl Line {
-    // Parses a line. After `each `, a command and its reply are repeated for each number. After `sends ` and `gets `
-    // come bytes. Returns `None` for anything else.
+    // Parses a line. After `each `, a command and its reply are repeated for each number, or for so many numbers at a
+    // time. After `sends ` and `gets ` come bytes. Returns `None` for anything else.
     pub(crate) fn read(alloc: Global, text: &str) -> Result<Option<Line>, AllocError> {
         if let Some(sent) = text.strip_prefix("sends ") {
             return Ok(Some(Line::of(alloc, sent, "", Form::Bytes)?));
@@ -97,7 +112,7 @@ impl Line {
         }
         let (form, text) = match text.strip_prefix("each ") {
             None => (Form::Once, text),
-            Some(rest) => (Form::Each, rest),
+            Some(rest) => Form::of_each(rest),
         };
         let Some((command, reply)) = text.split_once(" -> ") else {
             return Ok(None);
@@ -123,6 +138,7 @@ impl Line {
         match self.form {
             Form::Once => {}
             Form::Each => return self.add_each(alloc, round, exchange),
+            Form::EachGroup(count) => return self.add_groups(alloc, round, count, exchange),
             Form::Bytes => return exchange.push_bytes(&self.command, &self.reply),
         }
         let command = expand_braces(alloc, &self.command, round.numbers)?;
@@ -153,6 +169,27 @@ impl Line {
             let command = words.fill(alloc, &self.command)?;
             let reply = words.fill(alloc, &self.reply)?;
             exchange.push(&round.encoded(alloc, &command)?, &reply)?;
+        }
+        Ok(())
+    }
+
+    // Adds the command and the reply once for each multiple of this count among the numbers, with the part in braces
+    // repeated for the numbers from it up to the next multiple.
+    fn add_groups(
+        &self,
+        alloc: Global,
+        round: Round,
+        count: usize,
+        exchange: &mut Exchange,
+    ) -> Result<(), AllocError> {
+        for first in round.numbers.first..round.numbers.end {
+            if first % count.max(1) == 0 {
+                let end = first.saturating_add(count);
+                let numbers = Numbers { first, end };
+                let command = expand_braces(alloc, &self.command, numbers)?;
+                let reply = expand_braces(alloc, &self.reply, numbers)?;
+                exchange.push(&round.encoded(alloc, &command)?, &reply)?;
+            }
         }
         Ok(())
     }

@@ -3,5 +3,6 @@ mod again;
 mod call;
 mod faults;
 mod full;
+mod queries;
 mod refused;
 mod same;

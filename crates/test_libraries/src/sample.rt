@@ -1,5 +1,5 @@
 // Bounds of values, and the small types of a sample.
-ghost use Rattle.std.specs.Prelude.{◌≡◌, ◌<◌};
+ghost use Rattle.std.specs.Prelude.{◌≡◌, ◌<◌, ◌+◌};
 
 use std::alloc::AllocError;
 use std::marker::Brand;
@@ -48,19 +48,27 @@ fn samples_are_compared_by_their_parts(rt: HostRuntime) {
     assert!(rt; Cell::Number(sample.value) != Cell::Nan);
 }
 
-fn two_steps<L: Ledger>(blank: Blank)
+// Two ticks, and five steps at once. What is counted exists in proofs alone, so the contract says it.
+fn seven_steps<L: Ledger>(steps: &mut Steps<L>)
+    ensures { steps.new ≡ steps.old + 7 }
+{
+    steps.tick();
+    steps.tick();
+    steps.add(5);
+}
+
+fn seven_from_zero<L: Ledger>(blank: Blank)
     requires name { blank.name ≡ L.name }
     requires parts { blank.parts ≡ L.parts }
     requires some { 0 < blank.parts }
 {
     let mut steps: Steps<L> = Steps::new(blank);
-    steps.tick();
-    steps.tick();
+    seven_steps(&mut steps);
 }
 
 #[test]
 fn steps_are_counted_without_bytes(rt: HostRuntime) {
-    two_steps::<Brand>(Blank::new(1));
+    seven_from_zero::<Brand>(Blank::new(1));
     assert!(rt; size_of::<Steps<Brand>>() == 0);
 }
 

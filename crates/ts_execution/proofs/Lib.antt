@@ -16,6 +16,7 @@ pub mod ReplayedCommands
 pub mod TripleItems
 pub mod Handlings
 pub mod WholeLoads
+pub mod RestBytes
 pub mod Yielding
 pub mod MissingKey
 pub mod ShortAnswers

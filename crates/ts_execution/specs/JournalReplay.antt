@@ -1,7 +1,6 @@
 -- How the requests of a journal are replayed.
-use Rattle.std.specs.Prelude.{◌≡◌, ⊤, Bool, true, false, ℕ, ◌≤◌, ◌+◌, List, [], ◌∷◌, ◌++◌, length, map, Option, IfNone, None, Some, Result, Ok, Err}
+use Rattle.std.specs.Prelude.{◌≡◌, ⊤, Bool, true, false, if◌then◌else◌, nat_le, ℕ, ◌≤◌, ◌+◌, ◌-◌, List, [], ◌∷◌, ◌++◌, length, drop, map, Option, IfNone, None, Some, Result, Ok, Err}
 use Rattle.std.specs.Io.KnownBytes.{Consumes}
-use Rattle.std.specs.Option.{unwrap_or}
 use Rattle.ts_db.specs.DbState.{DbState, DbView, Simulates}
 use Rattle.ts_db.specs.declared.fault.DbFault.{DbFault}
 use Rattle.ts_db.specs.declared.fault.DbFault.TheVariants as fault
@@ -17,14 +16,14 @@ use Rattle.ts_spec.specs.State.{State}
 use Rattle.ts_spec.specs.Wire.{Request}
 use Rattle.ts_spec.specs.declared.limits.Limits.{Limits}
 use Rattle.ts_spec.specs.declared.wire.WireLimits.{WireLimits}
-use Rattle.ts_journal.specs.Loading.{Load, Loads, BreaksAt, apply_recorded, apply_recorded_request, load_on, load_from}
+use Rattle.ts_journal.specs.Loading.{Load, Loads, BreaksAt, apply_recorded, apply_recorded_request, begins_as_record, load_on, load_from}
 use Rattle.ts_journal.specs.RecordReplay.{has_error}
 use Rattle.ts_execution.specs.declared.journal_replay.ReplayResult.{ReplayResult}
 use Rattle.ts_execution.specs.declared.journal_replay.ReplayResult.TheVariants as replay_result
 use Rattle.ts_execution.specs.declared.next_change.NextChange.{NextChange}
 use Rattle.ts_execution.specs.declared.next_change.NextChange.TheVariants as found
-use Rattle.ts_execution.specs.declared.loading.Piece.{Piece}
-use Rattle.ts_execution.specs.declared.loading.Piece.TheVariants as piece
+use Rattle.ts_execution.specs.declared.journal_piece.Piece.{Piece}
+use Rattle.ts_execution.specs.declared.journal_piece.Piece.TheVariants as piece
 use Rattle.ts_execution.specs.declared.loading.Loaded.{Loaded}
 use Rattle.ts_execution.specs.declared.loading.Loaded.TheVariants as loaded
 use Rattle.ts_execution.specs.declared.loading.Loading.{Loading}
@@ -123,14 +122,22 @@ abbrev pub LoadsIf : (done : Bool) → (old new : Loading) → (bytes : List ℕ
 LoadsIf true old new bytes from to = LoadsOn old new bytes from to
 LoadsIf false old new bytes from to = ⊤
 
--- `taken` bytes of the journal were read, and every request that they complete was replayed
-pub record ReplaysPiece (taken : ℕ) (left rest : Option (List ℕ)) (old new : Loading) (a b : DbView) : Type 0 where
+-- Whether the unfinished request begins as a record does: it begins in this piece, which is at offset `before`, or `was`
+-- tells it.
+abbrev pub still_record : (was : Bool) → (begin : Option ℕ) → (before : ℕ) → List ℕ → Bool
+still_record was None before piece = was
+still_record was (Some at) before piece = if nat_le before at then begins_as_record (drop (at - before) piece) else was
+
+-- `taken` bytes of the journal at offset `before` were read, and every request that they complete was replayed. The flags
+-- tell whether the unfinished request begins as a record does.
+pub record ReplaysPiece (before taken : ℕ) (was now : Bool) (left rest : Option (List ℕ)) (old new : Loading) (a b : DbView) : Type 0 where
   pub bytes : List ℕ
   pub took : Consumes left rest bytes
   pub count : length bytes ≡ taken
   pub goes : Simulates a b (λ from to. LoadsOn old new bytes from to)
   pub current : IsCurrent new
   pub within : fed new.reader ≤ fed old.reader + taken
+  pub starts : now ≡ still_record was (unfinished new.reader) before bytes
 
 -- a fact about the size of the piece, if one was read
 abbrev pub IfRead : Piece → (ℕ → Type 0) → Type 0
@@ -156,11 +163,16 @@ abbrev pub EndsWithin : Loaded → (read : ℕ) → Type 0
 EndsWithin (loaded.Whole place) read = place ≤ read
 EndsWithin other read = ⊤
 
--- the result for a journal of `taken` bytes
-abbrev pub verdict_by : Option ℕ → Reading → (taken : ℕ) → Loaded
-verdict_by (Some place) reader taken = loaded.Broken place
-verdict_by None reader taken = loaded.Whole (unwrap_or (unfinished reader) taken)
+-- the result for a journal of `taken` bytes, whose unfinished request begins at this offset
+abbrev pub verdict_at : Option ℕ → (is_record : Bool) → (taken : ℕ) → Loaded
+verdict_at None is_record taken = loaded.Whole taken
+verdict_at (Some place) is_record taken = if is_record then loaded.Whole place else loaded.Broken place
+
+-- the same, unless the journal broke before
+abbrev pub verdict_by : Option ℕ → Reading → (is_record : Bool) → (taken : ℕ) → Loaded
+verdict_by (Some place) reader is_record taken = loaded.Broken place
+verdict_by None reader is_record taken = verdict_at (unfinished reader) is_record taken
 
 -- the same, from the state of the load
-abbrev pub verdict : Loading → (taken : ℕ) → Loaded
-verdict l taken = verdict_by l.broken l.reader taken
+abbrev pub verdict : Loading → (is_record : Bool) → (taken : ℕ) → Loaded
+verdict l is_record taken = verdict_by l.broken l.reader is_record taken

@@ -8,6 +8,7 @@ mod execution;
 mod handler;
 mod handling;
 mod info;
+mod journal_piece;
 mod journal_replay;
 mod loading;
 mod multi_add;

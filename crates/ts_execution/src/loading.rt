@@ -1,18 +1,15 @@
 // Loads a journal.
-ghost use Rattle.std.specs.Prelude.{◌≡◌, ◌≢◌, ℕ, ⊤, ◌+◌, ◌<◌, ◌≤◌, ◌^◌, true, List, [], length, None, Some};
-ghost use Rattle.std.specs.Io.KnownBytes.{IsAtEnd};
+ghost use Rattle.std.specs.Prelude.{◌≡◌, ◌≢◌, ℕ, ◌+◌, ◌<◌, ◌≤◌, ◌^◌, true, List, [], length, None, Some};
 ghost use Rattle.ts_io.specs.Causes.{Rose};
-ghost use Rattle.ts_io.specs.Logs.{unread, place_after};
 ghost use Rattle.ts_resp.specs.Reading.{fed};
 ghost use Rattle.ts_db.specs.DbState.{Simulates};
 ghost use Rattle.ts_journal.specs.Limits.{IsBounded};
 ghost use Rattle.ts_execution.specs.Limits.{CanRead};
-ghost use Rattle.ts_execution.specs.JournalReplay.{LoadsIf, IsCurrent, ReplaysPiece, IfRead, IsLoaded, IsJudged};
-ghost use Rattle.ts_execution.specs.JournalReplay.{EndsWithin, verdict};
+ghost use Rattle.ts_execution.specs.JournalReplay.{LoadsIf, IsCurrent, IsLoaded, IsJudged, EndsWithin, verdict};
 
+use crate::journal_piece::{Piece, read_piece};
 use crate::next_change::{NextChange, next_change};
 use std::alloc::Global;
-use std::marker::Brand;
 use std::sync::ledger::{Blank, Ledger};
 use ts_db::{Db, Hints};
 use ts_io::Log;
@@ -35,24 +32,13 @@ pub enum Loaded {
     Memory,
 }
 
-// The result of one read of a journal.
-#[derive(Clone, Copy, Debug, PartialEq, Eq)]
-pub(crate) enum Piece {
-    // this many bytes were read; 0 at the end of the journal
-    Read(usize),
-    // the read failed
-    Fault,
-    // out of memory
-    Memory,
-}
-
 /// The most bytes that one read asks for.
 const PIECE: usize = 4096;
 
 // The state of a load.
 #[derive(Drop)]
-struct Loading {
-    reader: Reader,
+pub(crate) struct Loading {
+    pub(crate) reader: Reader,
     // hints for the series of the keys
     hints: Hints,
     // the offset after the last change
@@ -93,10 +79,18 @@ pub fn load<J: Log>(
     };
     let mut buffer = [0; PIECE];
     let mut taken = 0;
+    let mut is_record = true;
     while taken < budget {
         let most = (budget - taken).min(PIECE as u64) as usize;
-        match read_piece(&mut loading, db, log, &mut buffer[..most]) {
-            Piece::Read(0) => return loading.verdict(taken),
+        match read_piece(
+            &mut loading,
+            db,
+            log,
+            &mut buffer[..most],
+            taken,
+            &mut is_record,
+        ) {
+            Piece::Read(0) => return loading.verdict(taken, is_record),
             Piece::Read(count) => taken += count as u64,
             Piece::Fault => return Loaded::Fault,
             Piece::Memory => return Loaded::Memory,
@@ -105,49 +99,29 @@ pub fn load<J: Log>(
     Loaded::Budget
 }
 
-// Reads one piece and replays the changes that it completes, unless the journal has already broken.
-fn read_piece<J: Log>(loading: &mut Loading, db: &mut Db, log: &mut J, buffer: &mut [u8]) -> Piece
-    requires within { fed loading.old.reader + length buffer.old < 2 ^ 64 }
-    requires room { 0 < length buffer.old }
-    ensures takes { IfRead result
-        (λ count. ReplaysPiece count (unread (J.content log.old) (J.place log.old))
-        (unread (J.content log.new) (J.place log.new))
-        loading.old loading.new db.old db.new) }
-    ensures carries { Simulates db.old db.new (λ from to. ⊤) }
-    ensures at_end { result ≡ Piece.Read 0 → IsAtEnd (unread (J.content log.new) (J.place log.new)) }
-    ensures bound { IfRead result (λ count. count ≤ length buffer.old) }
-    ensures content { J.content log.new ≡ J.content log.old }
-    ensures place { IfRead result (λ count. J.place log.new ≡ place_after (J.place log.old) count) }
-    ensures later { J.faults log.old ≤ J.faults log.new }
-    ensures fault { result ≡ Piece.Fault → Rose (J.faults log.old) (J.faults log.new) }
-    ensures no_fault { result ≢ Piece.Fault → J.faults log.new ≡ J.faults log.old }
-{
-    match log.read(buffer) {
-        Ok(count) => {
-            if loading.replay_piece::<Brand>(db, &buffer[..count], Blank::new(1)) {
-                Piece::Read(count)
-            } else {
-                Piece::Memory
-            }
-        }
-        Err(_) => Piece::Fault,
-    }
-}
-
 impl Loading {
-    // The result, if the journal ends after `taken` bytes.
-    fn verdict(&self, taken: u64) -> Loaded
-        ensures { result ≡ verdict self.now taken }
+    // The result, if the journal ends after `taken` bytes. An unfinished request that no record begins with breaks it.
+    fn verdict(&self, taken: u64, is_record: bool) -> Loaded
+        ensures { result ≡ verdict self.now is_record taken }
     {
         match self.broken {
             Some(place) => Loaded::Broken(place),
-            None => Loaded::Whole(self.reader.place().unwrap_or(taken)),
+            None => match self.reader.place() {
+                None => Loaded::Whole(taken),
+                Some(place) if is_record => Loaded::Whole(place),
+                Some(place) => Loaded::Broken(place),
+            },
         }
     }
 
     // Replays the changes that this piece completes, unless the journal has already broken. Returns `false` if memory
     // ran out.
-    fn replay_piece<L: Ledger>(&mut self, db: &mut Db, bytes: &[u8], blank: Blank) -> bool
+    pub(crate) fn replay_piece<L: Ledger>(
+        &mut self,
+        db: &mut Db,
+        bytes: &[u8],
+        blank: Blank,
+    ) -> bool
         requires within { fed self.old.reader + length bytes.now < 2 ^ 64 }
         requires name { blank.name ≡ L.name }
         requires parts { blank.parts ≡ L.parts }

@@ -11,3 +11,4 @@ pub mod Logs
 pub mod Pieces
 pub mod Sinks
 pub mod Sources
+pub mod System

@@ -5,12 +5,13 @@ ghost use Rattle.ts_io.specs.Adapters.{failed_log_calls_of, log_position_of};
 ghost use Rattle.ts_io.specs.Causes.{HasCause, saturating_succ};
 ghost use Rattle.ts_io.specs.Logs.{ReadAdvances};
 
-use crate::failed::count_failure;
+use crate::locked_file::open_locked;
+use crate::store::cut_and_sync;
+use crate::system::{checked, read_retried, write_retried};
 use crate::{Failed, Log};
-use std::fs::{File, OpenOptions};
+use std::fs::File;
 use std::io;
-use std::io::{ErrorKind, Write};
-use std::os::fd::AsRawFd;
+use std::io::{ErrorKind, Read};
 use std::os::unix::fs::FileExt;
 use std::rt::Files;
 
@@ -24,6 +25,19 @@ pub struct FileLog<R> {
     file: Option<File>,
     place: u64,
     faults: u64,
+}
+
+// A file that is read from this position.
+#[derive(Drop)]
+struct FileAt<'a> {
+    file: &'a File,
+    place: u64,
+}
+
+impl Read for FileAt<'_> {
+    fn read(&mut self, buf: &mut [u8]) -> io::Result<usize> {
+        self.file.read_at(buf, self.place)
+    }
 }
 
 impl<R: Files<File = File>> FileLog<R> {
@@ -41,18 +55,6 @@ impl<R: Files<File = File>> FileLog<R> {
         }
     }
 
-    // Opens and locks the file, creating it if it does not exist. All writes go to its end.
-    fn open_locked(&self, name: &str) -> io::Result<File> {
-        let file = OpenOptions::new()
-            .read(true)
-            .append(true)
-            .create(true)
-            .open(&self.rt, name)?;
-        let file = above_standard_streams(file)?;
-        file.try_lock()?;
-        Ok(file)
-    }
-
     // The open file.
     fn file(&self) -> io::Result<&File> {
         match &self.file {
@@ -64,16 +66,16 @@ impl<R: Files<File = File>> FileLog<R> {
     fn read_once(&self, buf: &mut [u8]) -> io::Result<usize>
         ensures { ReadsAtMost result buf.new }
     {
-        self.file()?.read_at(buf, self.place)
+        let mut file = FileAt {
+            file: self.file()?,
+            place: self.place,
+        };
+        read_retried(&mut file, buf, false)
     }
 
-    // Never extends a shorter file.
-    fn cut_and_sync(&self, len: u64) -> io::Result<()> {
-        let file = self.file()?;
-        if len < file.metadata()?.len() {
-            file.set_len(len)?;
-        }
-        file.sync_data()
+    fn cut_file(&self, len: u64) -> io::Result<()> {
+        let mut file = self.file()?;
+        cut_and_sync(&mut file, len)
     }
 
     fn sync_once(&self) -> io::Result<()> {
@@ -86,7 +88,7 @@ impl<R: Files<File = File>> FileLog<R> {
         ensures progress { 0 < length bytes.now → IfOk result (λ n. 0 < n) }
     {
         let mut file = self.file()?;
-        match file.write(bytes) {
+        match write_retried(&mut file, bytes) {
             Ok(0) if !bytes.is_empty() => Err(io::Error::from(ErrorKind::WriteZero)),
             outcome => outcome,
         }
@@ -100,8 +102,9 @@ impl<R: Files<File = File>> Log for FileLog<R> {
 
     ghost faults = { failed_log_calls_of };
 
-    /// Opens and locks the file, creating it if it does not exist. The file that was open is closed first. Fails
-    /// without changing the file if another log has it open.
+    /// Opens and locks the file, creating it if it does not exist. The file that was open is closed first. A new file's
+    /// name is synced in its folder. Fails without changing the file if another log has it open, if it is not a regular
+    /// file, or if the name no longer leads to it.
     fn open(&mut self, name: &str) -> Result<(), Failed>
         ensures start { OnOk result (log_position_of self.new ≡ 0) }
         ensures failed { OnErr result (log_position_of self.new ≡ log_position_of self.old) }
@@ -109,14 +112,10 @@ impl<R: Files<File = File>> Log for FileLog<R> {
         ensures err { OnErr result (failed_log_calls_of self.new ≡ saturating_succ (failed_log_calls_of self.old)) }
     {
         self.file = None;
-        match self.open_locked(name) {
-            Ok(file) => {
-                self.file = Some(file);
-                self.place = 0;
-                Ok(())
-            }
-            Err(_) => Err(count_failure(&mut self.faults)),
-        }
+        let file = checked(open_locked(&self.rt, name), &mut self.faults)?;
+        self.file = Some(file);
+        self.place = 0;
+        Ok(())
     }
 
     /// Fails if no file is open.
@@ -126,13 +125,9 @@ impl<R: Files<File = File>> Log for FileLog<R> {
         ensures cause { HasCause (failed_log_calls_of self.old) (failed_log_calls_of self.new) result }
         ensures err { OnErr result (failed_log_calls_of self.new ≡ saturating_succ (failed_log_calls_of self.old)) }
     {
-        match self.read_once(buf) {
-            Ok(count) => {
-                self.place = self.place.saturating_add(count as u64);
-                Ok(count)
-            }
-            Err(_) => Err(count_failure(&mut self.faults)),
-        }
+        let count = checked(self.read_once(buf), &mut self.faults)?;
+        self.place = self.place.saturating_add(count as u64);
+        Ok(count)
     }
 
     /// Returns `Ok` once the system reports that the remaining content is on disk. If the cut succeeds and that report
@@ -143,10 +138,7 @@ impl<R: Files<File = File>> Log for FileLog<R> {
         ensures cause { HasCause (failed_log_calls_of self.old) (failed_log_calls_of self.new) result }
         ensures err { OnErr result (failed_log_calls_of self.new ≡ saturating_succ (failed_log_calls_of self.old)) }
     {
-        match self.cut_and_sync(len) {
-            Ok(()) => Ok(()),
-            Err(_) => Err(count_failure(&mut self.faults)),
-        }
+        checked(self.cut_file(len), &mut self.faults)
     }
 
     /// Makes one write call. Fails if no file is open.
@@ -157,10 +149,7 @@ impl<R: Files<File = File>> Log for FileLog<R> {
         ensures cause { HasCause (failed_log_calls_of self.old) (failed_log_calls_of self.new) result }
         ensures err { OnErr result (failed_log_calls_of self.new ≡ saturating_succ (failed_log_calls_of self.old)) }
     {
-        match self.write_once(bytes) {
-            Ok(count) => Ok(count),
-            Err(_) => Err(count_failure(&mut self.faults)),
-        }
+        checked(self.write_once(bytes), &mut self.faults)
     }
 
     /// Returns `Ok` once the system reports that the content is on disk. Fails if no file is open.
@@ -169,18 +158,6 @@ impl<R: Files<File = File>> Log for FileLog<R> {
         ensures cause { HasCause (failed_log_calls_of self.old) (failed_log_calls_of self.new) result }
         ensures err { OnErr result (failed_log_calls_of self.new ≡ saturating_succ (failed_log_calls_of self.old)) }
     {
-        match self.sync_once() {
-            Ok(()) => Ok(()),
-            Err(_) => Err(count_failure(&mut self.faults)),
-        }
+        checked(self.sync_once(), &mut self.faults)
     }
-}
-
-// Duplicates the file if its descriptor is that of a standard stream. If such a stream was closed, the system gives its
-// descriptor to the next file opened, and later writes to the stream would go into that file.
-fn above_standard_streams(file: File) -> io::Result<File> {
-    if file.as_raw_fd() <= 2 {
-        return file.try_clone();
-    }
-    Ok(file)
 }

@@ -1,5 +1,5 @@
-//! Devices: the traits of byte sources, sinks, logs, clocks, listeners and hubs, which count their faults; devices in memory,
-//! whose failures are chosen beforehand; and adapters over std's readers, writers, files, clock and network.
+//! Devices: the traits of byte sources, sinks, logs, clocks, listeners and hubs, which count their faults; devices in
+//! memory, whose failures are chosen beforehand; and adapters over std's readers, writers, files, clock and network.
 //!
 //! Counts of calls and faults are `u64` and stop at 18446744073709551615. The calls of a device in memory are numbered
 //! from 1; from that number on, every call has it.
@@ -14,6 +14,7 @@ mod file_log;
 mod gathered;
 mod hub;
 mod listener;
+mod locked_file;
 mod log;
 mod mem_hub;
 mod mem_listener;
@@ -23,7 +24,9 @@ mod packet;
 mod schedule;
 mod sending;
 mod std_streams;
+mod store;
 mod streams;
+mod system;
 mod tcp_connection;
 mod tcp_link;
 mod tcp_net;

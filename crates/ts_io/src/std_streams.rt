@@ -8,6 +8,7 @@ ghost use Rattle.ts_io.specs.Causes.{HasCause, saturating_succ};
 ghost use Rattle.ts_io.specs.Sinks.{WriteGrows};
 
 use crate::failed::count_failure;
+use crate::system::{checked, read_retried, write_retried};
 use crate::{Failed, Sink, Source};
 use std::io::{Read, Write};
 
@@ -41,10 +42,7 @@ impl<R: Read> Source for StdSource<R> {
         ensures ok { OnOk result (failed_reads_of self.new ≡ failed_reads_of self.old) }
         ensures err { OnErr result (failed_reads_of self.new ≡ saturating_succ (failed_reads_of self.old)) }
     {
-        match self.inner.read(buf) {
-            Ok(count) => Ok(count),
-            Err(_) => Err(count_failure(&mut self.faults)),
-        }
+        checked(read_retried(&mut self.inner, buf, false), &mut self.faults)
     }
 }
 
@@ -118,7 +116,7 @@ fn write_and_flush<W: Write>(writer: &mut W, bytes: &[u8]) -> Result<usize, usiz
     ensures unflushed { IfErr result (λ n. (n ≤ length bytes.now)
         × Appends (W.contents writer.old) (W.contents writer.new) (take n bytes.now)) }
 {
-    match writer.write(bytes) {
+    match write_retried(writer, bytes) {
         Ok(0) if !bytes.is_empty() => Err(0),
         Ok(count) => match writer.flush() {
             Ok(()) => Ok(count),

@@ -6,7 +6,7 @@ ghost use Rattle.ts_io.specs.Batches.{NonBlockingConsumes};
 ghost use Rattle.ts_io.specs.Causes.{HasCause};
 ghost use Rattle.ts_io.specs.Sinks.{Grows, WriteGrows};
 
-use crate::failed::count_failure;
+use crate::system::checked;
 use crate::tcp_socket::TcpSocket;
 use crate::{Connection, Failed, Wait};
 use std::net::TcpStream;
@@ -43,23 +43,14 @@ impl Connection for TcpConnection {
     ghost faults = { λ c. c.faults };
 
     fn send(&mut self, bytes: &[u8], wait: Wait) -> Result<usize, Failed> {
-        match self.socket.send(bytes, wait) {
-            Ok(count) => Ok(count),
-            Err(_) => Err(count_failure(&mut self.faults)),
-        }
+        checked(self.socket.send(bytes, wait), &mut self.faults)
     }
 
     fn receive(&mut self, buf: &mut [u8]) -> Result<usize, Failed> {
-        match self.socket.receive(buf) {
-            Ok(count) => Ok(count),
-            Err(_) => Err(count_failure(&mut self.faults)),
-        }
+        checked(self.socket.receive(buf), &mut self.faults)
     }
 
     fn try_receive(&mut self, buf: &mut [u8]) -> Result<Option<usize>, Failed> {
-        match self.socket.try_receive(buf) {
-            Ok(count) => Ok(count),
-            Err(_) => Err(count_failure(&mut self.faults)),
-        }
+        checked(self.socket.try_receive(buf), &mut self.faults)
     }
 }

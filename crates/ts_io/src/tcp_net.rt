@@ -3,7 +3,7 @@ ghost use Rattle.std.specs.Prelude.{◌≡◌, None, true, false, is_ok, OnOk, O
 ghost use Rattle.ts_io.specs.Adapters.{failed_listens_of, link_is_open};
 ghost use Rattle.ts_io.specs.Causes.{HasCause, saturating_succ};
 
-use crate::failed::count_failure;
+use crate::system::checked;
 use crate::tcp_link::Link;
 use crate::{
     Batches, Ends, Failed, Listener, StdSink, StdSource, TcpConnection, TcpReader, TcpWriter,
@@ -107,10 +107,8 @@ where
         ensures ok { OnOk result (failed_listens_of self.new ≡ failed_listens_of self.old) }
         ensures err { OnErr result (failed_listens_of self.new ≡ saturating_succ (failed_listens_of self.old)) }
     {
-        match self.listen(address) {
-            Ok(()) => Ok(()),
-            Err(_) => Err(count_failure(&mut self.faults)),
-        }
+        let outcome = self.listen(address);
+        checked(outcome, &mut self.faults)
     }
 
     /// Waits for the next connection. Fails if it is not listening.
@@ -121,13 +119,9 @@ where
         ensures ok { OnOk result (failed_listens_of self.new ≡ failed_listens_of self.old) }
         ensures err { OnErr result (failed_listens_of self.new ≡ saturating_succ (failed_listens_of self.old)) }
     {
-        match self.next_link() {
-            Ok(ends) => {
-                self.has_open_link = true;
-                Ok(ends)
-            }
-            Err(_) => Err(count_failure(&mut self.faults)),
-        }
+        let ends = checked(self.next_link(), &mut self.faults)?;
+        self.has_open_link = true;
+        Ok(ends)
     }
 
     fn close(&mut self, ends: Ends<StdSource<TcpReader>, StdSink<TcpWriter>>)

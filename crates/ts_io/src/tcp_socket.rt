@@ -3,6 +3,7 @@ ghost use Rattle.std.specs.Prelude.{◌≡◌, ◌<◌, ◌≤◌, length, IfOk,
 ghost use Rattle.std.specs.Io.{ReadsAtMost, WritesAtMost};
 
 use crate::Wait;
+use crate::system::{is_for_now, read_arrived, read_retried};
 use std::io::{ErrorKind, Read, Write};
 use std::net::{Shutdown, TcpStream};
 use std::time::{Duration, Instant};
@@ -61,13 +62,7 @@ impl TcpSocket {
         ensures { ReadsAtMost result buf.new }
     {
         self.set_mode(Mode::Waits)?;
-        for _ in 0..u64::MAX {
-            match self.stream.read(buf) {
-                Err(error) if is_for_now(&error) => {}
-                outcome => return outcome,
-            }
-        }
-        Err(io::Error::from(ErrorKind::TimedOut))
+        read_retried(&mut self.stream, buf, true)
     }
 
     /// Reads what has arrived. `None` means that nothing has.
@@ -75,11 +70,7 @@ impl TcpSocket {
         ensures { IfOk result (λ o. IfSome o (λ n. n ≤ length buf.new)) }
     {
         self.set_mode(Mode::ReturnsAtOnce)?;
-        match self.stream.read(buf) {
-            Ok(count) => Ok(Some(count)),
-            Err(error) if is_for_now(&error) => Ok(None),
-            Err(error) => Err(error),
-        }
+        read_arrived(&mut self.stream, buf)
     }
 
     /// Shuts down the sending side, then reads and drops what the client still sends until it closes too, up to a limit
@@ -155,9 +146,4 @@ impl TcpSocket {
         }
         Err(io::Error::from(ErrorKind::TimedOut))
     }
-}
-
-// Whether the call would have blocked or was interrupted.
-fn is_for_now(error: &io::Error) -> bool {
-    matches!(error.kind(), ErrorKind::WouldBlock | ErrorKind::Interrupted)
 }

@@ -22,13 +22,14 @@ pub struct Waiting {
 }
 
 impl Model for Waiting {
-    ghost use Rattle.std.specs.Prelude.{◌≤◌, List, ℕ, drop, length};
+    ghost use Rattle.std.specs.Prelude.{◌≤◌, ◌^◌, List, ℕ, drop, length};
 
     ghost Value = { List ℕ };
 
     ghost view = { λ w. drop w.sent w.bytes.items };
 
-    ghost invariant = { λ w. w.sent ≤ length w.bytes.items };
+    // What was sent is moved out before it makes the buffer larger than twice the limit.
+    ghost invariant = { λ w. (w.sent ≤ length w.bytes.items) × (length w.bytes.items ≤ 2 ^ 27) };
 }
 
 impl Waiting {
@@ -73,7 +74,8 @@ impl Waiting {
             return Err(Full);
         }
         if self.sent >= self.len() {
-            self.compact();
+            self.bytes.drain(..self.sent);
+            self.sent = 0;
         }
         match self.bytes.extend_from_slice(bytes) {
             Ok(()) => Ok(()),

@@ -1,6 +1,7 @@
 -- A journal, followed by a record.
 use Rattle.std.proofs.Common.{◌≡◌, ◌≢◌, ℕ, zero, suc, ◌^◌, ◌<◌, true, false, ◌&&◌, ◌||◌, not, if◌then◌else◌, List, [], ◌∷◌, ◌++◌, length, take, refl, sym, ap, ◌∙◌, subst, append-nil, arith}
 use Rattle.std.specs.Prelude.{Some, None}
+use Rattle.std.proofs.Math.Seq.{drop-append_seam}
 use Rattle.std.proofs.lemmas.List.Elements.{All-nil, All-cons}
 use Rattle.ts_spec.specs.declared.limits.Limits.{Limits}
 use Rattle.ts_spec.specs.declared.wire.WireLimits.{WireLimits}
@@ -17,13 +18,14 @@ use Rattle.ts_spec.specs.Wire.{Request, Stream, Then, Ended, Inside, Broken, str
 use Rattle.ts_spec.proofs.ReadBack.{requests-encoded}
 use Rattle.ts_spec.proofs.ResolvedTimes.{no-clock}
 use Rattle.ts_journal.specs.Limits.{IsBounded, journal_limits}
-use Rattle.ts_journal.specs.Loading.{Loads, accepted_state, apply_recorded, apply_recorded_request, continue_or_break, load_on, load, LoadsTo}
+use Rattle.ts_journal.specs.Loading.{Loads, accepted_state, apply_recorded, apply_recorded_request, begins_as_record, continue_or_break, load_on, load, LoadsTo}
 use Rattle.ts_journal.specs.Record.{is_change, items_of, accepted, bytes_of, record_words, record_of}
 use Rattle.ts_journal.specs.RecordReplay.{IsRecorded, IsAccepted, has_error}
 use Rattle.ts_journal.proofs.Almost.{torn-inside}
 use Rattle.ts_journal.proofs.Fitting.{record-fits}
-use Rattle.ts_journal.proofs.Loads.{load-more}
+use Rattle.ts_journal.proofs.Loads.{requests_load, load-more}
 use Rattle.ts_journal.proofs.Replays.{not-refused, some-words, words-read, replays}
+use Rattle.ts_journal.proofs.Rests.{by-rest, loads-alone}
 
 -- ---- the record of a command is replayed
 
@@ -80,6 +82,9 @@ record-encoded c reading reply some =
     ap (λ b. if b then [] else bytes_of (record_words reading (accepted c reply))) (not-refused c reading reply some)
     ∙ words-encoded (record_words reading (accepted c reply)) (some-words c reading reply some)
 
+pub record-begins : (c : Command) (reading : ℕ) (reply : Reply) → record_of c reading reply ≢ [] → begins_as_record (record_of c reading reply) ≡ true
+record-begins c reading reply some = ap begins_as_record (record-encoded c reading reply some)
+
 none-more : (stream : Stream) → requests_of stream ≡ [] → ending_of stream ≡ Ended → stream ≡ Ended
 none-more (Then request after rest) e ended = absurd cc
 none-more Ended e ended = refl
@@ -116,10 +121,12 @@ grown limits bytes old new words b e fits does = record {
   whole =
       let request = request-alone within words (length bytes) few short fits in
       let more = load-more limits bytes (encoded_request words) old e in
-      let total = length (bytes ++ encoded_request words) in
-      more.1
+      let all : List ℕ = bytes ++ encoded_request words in
+      let total = length all in
+      loads-alone all (requests_load limits all) new total (omega arith)
+      (more.1
       ∙ ap (load_on limits old more.0 total) request.1
-      ∙ ap (λ o. continue_or_break o more.0 (λ n. Loads n total)) does;
+      ∙ ap (λ o. continue_or_break o more.0 (λ n. Loads n total)) does);
   torn = part;
 }
   where
@@ -137,7 +144,9 @@ grown limits bytes old new words b e fits does = record {
     part (suc n) less =
         let front = take (suc n) (encoded_request words) in
         let more = load-more limits bytes front old e in
-        more.1 ∙ ap (load_on limits old more.0 (length (bytes ++ front))) (torn-inside within (length bytes) words (suc n) few short fits (omega arith) less)
+        by-rest (bytes ++ front) (requests_load limits (bytes ++ front)) old (length bytes) true
+        (more.1 ∙ ap (load_on limits old more.0 (length (bytes ++ front))) (torn-inside within (length bytes) words (suc n) few short fits (omega arith) less))
+        (ap begins_as_record (drop-append_seam bytes front))
 
 pub record-grown : (limits : Limits) (bytes : List ℕ) (reading : ℕ) (c : Command) (old new : State) (reply : Reply) → IsBounded limits.wire → LoadsTo limits bytes old
     → (r : IsRecorded limits reading c old reply new) → IsWithin limits.wire r.words → Grows limits bytes old new (record_of c reading reply)

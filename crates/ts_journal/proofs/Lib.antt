@@ -24,9 +24,11 @@ pub mod ReadBack
 mod ShortAnswers
 mod TakenTriples
 mod Replays
-mod Unfinished
+pub mod Unfinished
 mod Almost
+pub mod Rests
 pub mod Loads
 pub mod Grown
+mod OnlyRecords
 pub mod Unrecorded
 pub mod FrontsLoad

@@ -61,3 +61,12 @@ no_time = refl
 a_fault : load usual (codes "TS.CREATE a\r\n*1\r\n+") ≡ BreaksAt 17
 unfolding read_on commands series_options
 a_fault = refl
+
+-- a rest that no record starts with: a file that is no journal, and notes behind a request
+a_note : load usual (codes "my secret") ≡ BreaksAt 0
+unfolding read_on
+a_note = refl
+
+notes_behind : load usual (codes "TS.CREATE a\nmy notes") ≡ BreaksAt 12
+unfolding read_on commands series_options
+notes_behind = refl

@@ -9,7 +9,8 @@ use Rattle.ts_spec.specs.State.{State, empty}
 use Rattle.ts_spec.specs.Wire.{Request, Stream, Then, Ended, Inside, Broken, Start, stream_at, ending_of}
 use Rattle.ts_spec.proofs.Concatenation.{concatenated}
 use Rattle.ts_journal.specs.Limits.{journal_limits}
-use Rattle.ts_journal.specs.Loading.{Loads, apply_recorded_request, continue_or_break, load_on, load, LoadsTo}
+use Rattle.ts_journal.specs.Loading.{Load, Loads, apply_recorded_request, continue_or_break, load_on, load, LoadsTo}
+use Rattle.ts_journal.proofs.Rests.{rest-of}
 use Rattle.ts_journal.proofs.Unfinished.{unfinished}
 
 -- ---- a request, and those after it
@@ -45,20 +46,30 @@ loads-end limits m before size Ended n place e = inl (refl, cc)
 loads-end limits m before size (Inside begin) n place e = inr cc
 loads-end limits m before size (Broken kind at) n place e = absurd cc
 
+-- its requests, whatever its rest is
+abbrev pub requests_load : Limits → List ℕ → Load
+requests_load limits bytes = load_on limits empty 0 (length bytes) (stream_at (journal_limits limits.wire) 0 bytes)
+
+pub requests-of : (limits : Limits) (bytes : List ℕ) (m : State) (place : ℕ) → load limits bytes ≡ Loads m place → requests_load limits bytes ≡ Loads m place
+requests-of limits bytes m place e = (rest-of bytes (requests_load limits bytes) m place e).0
+
 -- no more than all of its bytes are whole requests
-pub load-within : (limits : Limits) (bytes : List ℕ) (m : State) (place : ℕ) → load limits bytes ≡ Loads m place → place ≤ length bytes
-load-within limits bytes m place e =
+pub requests-within : (limits : Limits) (bytes : List ℕ) (m : State) (place : ℕ) → requests_load limits bytes ≡ Loads m place → place ≤ length bytes
+requests-within limits bytes m place e =
     let stream : Stream = stream_at (journal_limits limits.wire) 0 bytes in
     elim (loads-end limits empty 0 (length bytes) stream m place e) [
       | inl ended ↦ omega (arith, ended.1)
       | inr inside ↦ (let u = unfinished (journal_limits limits.wire) 0 bytes place inside in omega (arith, u.its, u.fewer))
     ]
 
+pub load-within : (limits : Limits) (bytes : List ℕ) (m : State) (place : ℕ) → load limits bytes ≡ Loads m place → place ≤ length bytes
+load-within limits bytes m place e = requests-within limits bytes m place (requests-of limits bytes m place e)
+
 -- where they all are, it ends after the last one
 pub loads-ended : (limits : Limits) (bytes : List ℕ) (m : State) → LoadsTo limits bytes m → ending_of (stream_at (journal_limits limits.wire) 0 bytes) ≡ Ended
 loads-ended limits bytes m e =
     let stream : Stream = stream_at (journal_limits limits.wire) 0 bytes in
-    elim (loads-end limits empty 0 (length bytes) stream m (length bytes) e) [
+    elim (loads-end limits empty 0 (length bytes) stream m (length bytes) (requests-of limits bytes m (length bytes) e)) [
       | inl ended ↦ ended.0
       | inr inside ↦ (let u = unfinished (journal_limits limits.wire) 0 bytes (length bytes) inside in absurd (omega (arith, u.its, u.fewer)))
     ]
@@ -81,13 +92,13 @@ loads-continued_by limits m before size total (Broken kind at) rest n place ende
 
 -- a journal, and more after it
 pub load-more : (limits : Limits) (bytes more : List ℕ) (m : State) → LoadsTo limits bytes m
-    → (last : ℕ) × (load limits (bytes ++ more) ≡ load_on limits m last (length (bytes ++ more)) (stream_at (journal_limits limits.wire) (length bytes) more))
+    → (last : ℕ) × (requests_load limits (bytes ++ more) ≡ load_on limits m last (length (bytes ++ more)) (stream_at (journal_limits limits.wire) (length bytes) more))
 load-more limits bytes more m e =
     let within : WireLimits = journal_limits limits.wire in
     let total = length (bytes ++ more) in
     let ended = loads-ended limits bytes m e in
     let there : 0 + length bytes ≡ length bytes = omega arith in
-    let all = loads-continued_by limits empty 0 (length bytes) total (stream_at within 0 bytes) (stream_at within (length bytes) more) m (length bytes) ended e in (
+    let all = loads-continued_by limits empty 0 (length bytes) total (stream_at within 0 bytes) (stream_at within (length bytes) more) m (length bytes) ended (requests-of limits bytes m (length bytes) e) in (
       all.0,
       ap (load_on limits empty 0 total)
           (concatenated within 0 0 Start bytes more refl ended ∙ ap (λ place. continued_by (stream_at within 0 bytes) (stream_at within place more)) there)

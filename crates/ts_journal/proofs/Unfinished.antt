@@ -1,7 +1,7 @@
 -- Streams that end inside a request: everything before it is whole requests.
 use Rattle.std.proofs.Common.{◌≡◌, ℕ, suc, ◌+◌, ◌<◌, ◌≤◌, List, [], ◌∷◌, ◌++◌, length, take, drop, inl, inr, refl, sym, ap, ◌∙◌, subst, append_assoc, take-append-drop, arith}
 use Rattle.std.proofs.Math.Nat.{eq-or-lt_of_le}
-use Rattle.std.proofs.lemmas.List.{take_all, length-take-le}
+use Rattle.std.proofs.lemmas.List.{take_all, take-append-le, length-take-le, length-drop}
 use Rattle.std.specs.Prelude.{◌⊎◌}
 use Rattle.ts_spec.specs.declared.wire.WireLimits.{WireLimits}
 use Rattle.ts_spec.specs.StreamPrefixes.{IsStreamPrefix, continued_by}
@@ -156,3 +156,44 @@ front-inside limits place bytes more e some =
         let same : begin ≡ place = omega (arith, u.its, none, length-take-le u.count bytes (omega (arith, u.fewer))) in
         its ∙ ap Inside same
     go (Broken kind at) its front = absurd cc
+
+-- ---- the request inside which a stream ends
+
+inside-first : (stream : Stream) (at : ℕ) → finished stream ≡ Ended → ending_of stream ≡ Inside at → stream ≡ Inside at
+inside-first (Then request place rest) at none e = absurd cc
+inside-first Ended at none e = absurd cc
+inside-first (Inside from) at none e = e
+inside-first (Broken kind place) at none e = absurd cc
+
+ending-continued : (stream rest : Stream) → ending_of stream ≡ Ended → ending_of (continued_by stream rest) ≡ ending_of rest
+ending-continued (Then request place others) rest e = ending-continued others rest e
+ending-continued Ended rest e = refl
+ending-continued (Inside from) rest e = absurd cc
+ending-continued (Broken kind place) rest e = absurd cc
+
+-- a front that has a byte of it ends inside it too
+pub begun-before : (limits : WireLimits) (bytes more : List ℕ) (at : ℕ) → ending_of (stream_at limits 0 (bytes ++ more)) ≡ Inside at → at < length bytes
+    → ending_of (stream_at limits 0 bytes) ≡ Inside at
+begun-before limits bytes more at e less =
+    let u = unfinished limits 0 (bytes ++ more) at e in
+    let same : u.count ≡ at = omega (arith, u.its) in
+    let few : at ≤ length bytes = omega (arith, less) in
+    let head : List ℕ = take at bytes in
+    let tail : List ℕ = drop at bytes in
+    let front : stream_at limits 0 head ≡ finished (stream_at limits 0 (bytes ++ more)) =
+    ap (stream_at limits 0) (sym (take-append-le at bytes more few) ∙ ap (λ (n : ℕ). take n (bytes ++ more)) (sym same)) ∙ u.front in
+    let ended : ending_of (stream_at limits 0 head) ≡ Ended = ap ending_of front ∙ finished-ended (stream_at limits 0 (bytes ++ more)) at e in
+    let size : 0 + length head ≡ at = omega (arith, length-take-le at bytes few) in
+    let onward : (rest : List ℕ) → ending_of (stream_at limits 0 (head ++ rest)) ≡ ending_of (stream_at limits at rest) = λ rest.
+    ap ending_of (concatenated limits 0 0 Start head rest refl ended)
+    ∙ ending-continued (stream_at limits 0 head) (stream_at limits (0 + length head) rest) ended
+    ∙ ap (λ (n : ℕ). ending_of (stream_at limits n rest)) size in
+    let split : head ++ (tail ++ more) ≡ bytes ++ more = sym (append_assoc head tail more) ∙ ap (λ (l : List ℕ). l ++ more) (take-append-drop at bytes) in
+    let later : ending_of (stream_at limits at (tail ++ more)) ≡ Inside at =
+    sym (onward (tail ++ more)) ∙ ap (λ (l : List ℕ). ending_of (stream_at limits 0 l)) split ∙ e in
+    let v = unfinished limits at (tail ++ more) at later in
+    let none : v.count ≡ 0 = omega (arith, v.its) in
+    let no_more : finished (stream_at limits at (tail ++ more)) ≡ Ended =
+    sym v.front ∙ ap (λ (n : ℕ). stream_at limits at (take n (tail ++ more))) none ∙ stream-none limits at in
+    let inside = front-inside limits at tail more (inside-first (stream_at limits at (tail ++ more)) at no_more later) (omega (arith, less, length-drop at bytes)) in
+    ap (λ (l : List ℕ). ending_of (stream_at limits 0 l)) (sym (take-append-drop at bytes)) ∙ onward tail ∙ ap ending_of inside

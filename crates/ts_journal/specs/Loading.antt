@@ -1,5 +1,5 @@
 -- What a journal loads to: the database after the changes in it.
-use Rattle.std.specs.Prelude.{◌≡◌, ◌≤◌, ℕ, Bool, ◌&&◌, ◌||◌, not, if◌then◌else◌, List, length, take, Option, None, Some, Result, Ok, Err}
+use Rattle.std.specs.Prelude.{◌≡◌, ◌≤◌, ℕ, Bool, true, ◌&&◌, ◌||◌, ◌==◌, not, if◌then◌else◌, List, [], ◌∷◌, length, take, drop, Option, None, Some, Result, Ok, Err}
 use Rattle.ts_spec.specs.Command.{Command}
 use Rattle.ts_spec.specs.Grammar.{command, needs_clock}
 use Rattle.ts_spec.specs.Refusal.{Fault}
@@ -7,7 +7,7 @@ use Rattle.ts_spec.specs.Replies.{reply_to}
 use Rattle.ts_spec.specs.State.{State, empty}
 use Rattle.ts_spec.specs.Step.{Outcome, step}
 use Rattle.ts_spec.specs.Text.{Reply}
-use Rattle.ts_spec.specs.Wire.{Stream, Then, Ended, Inside, Broken, stream_at}
+use Rattle.ts_spec.specs.Wire.{Stream, Then, Ended, Inside, Broken, STAR, stream_at}
 use Rattle.ts_spec.specs.declared.limits.Limits.{Limits}
 use Rattle.ts_spec.specs.declared.wire.WireLimits.{WireLimits}
 use Rattle.ts_journal.specs.Limits.{journal_limits}
@@ -49,9 +49,19 @@ load_on limits m place size Ended = Loads m size
 load_on limits m place size (Inside begin) = Loads m begin
 load_on limits m place size (Broken kind at) = BreaksAt at
 
+-- whether an unfinished rest can be the start of a record
+abbrev pub begins_as_record : List ℕ → Bool
+begins_as_record [] = true
+begins_as_record (byte ∷ bytes) = byte == STAR
+
+-- The same, but an unfinished rest that no record starts with breaks the journal, so it is never cut off.
+abbrev pub unless_foreign : List ℕ → Load → Load
+unless_foreign bytes (Loads m place) = if begins_as_record (drop place bytes) then Loads m place else BreaksAt place
+unless_foreign bytes (BreaksAt place) = BreaksAt place
+
 -- what these bytes load to, from this state
 abbrev pub load_from : Limits → WireLimits → State → List ℕ → Load
-load_from limits wire m bytes = load_on limits m 0 (length bytes) (stream_at (journal_limits wire) 0 bytes)
+load_from limits wire m bytes = unless_foreign bytes (load_on limits m 0 (length bytes) (stream_at (journal_limits wire) 0 bytes))
 
 -- what a journal with these bytes loads to
 abbrev pub load : Limits → List ℕ → Load
@@ -61,9 +71,16 @@ load limits bytes = load_from limits limits.wire empty bytes
 abbrev pub LoadsTo : Limits → List ℕ → State → Type 0
 LoadsTo limits bytes m = load limits bytes ≡ Loads m (length bytes)
 
--- the first n bytes load to some state, and `place` is how many of them are whole requests
+-- The first n bytes: `place` of them are whole requests, which load to some state. All n load to it too, unless their
+-- rest breaks the journal because no record starts so.
 pub record FrontLoads (limits : Limits) (bytes : List ℕ) (n : ℕ) : Type 0 where
   pub state : State
   pub place : ℕ
   pub within : place ≤ n
-  pub loads : load limits (take n bytes) ≡ Loads state place
+  pub whole : load limits (take place bytes) ≡ Loads state place
+  pub loads : load limits (take n bytes) ≡ unless_foreign (take n bytes) (Loads state place)
+
+-- wherever whole requests of the journal end, a record may start
+abbrev pub HasOnlyRecords : Limits → List ℕ → Type 0
+HasOnlyRecords limits bytes =
+    (place : ℕ) (m : State) → load limits (take place bytes) ≡ Loads m place → begins_as_record (drop place bytes) ≡ true

@@ -6,10 +6,11 @@ ghost use Rattle.ts_spec.specs.Answer.{Cell as TheCell};
 ghost use Rattle.ts_spec.specs.Bucket.{stamp};
 ghost use Rattle.ts_range.specs.Query.{cell_of};
 ghost use Rattle.ts_range.specs.Empty.{empty_cell_of};
+ghost use Rattle.ts_range.specs.BucketRanges.{FillsGaps};
 ghost use Rattle.ts_range.specs.FillPlan.{fill_value_after, value_or_fill, fill_value_at};
 ghost use Rattle.ts_range.specs.Starts.{starts_of};
 
-use crate::query::{Buckets, Row};
+use crate::query::{Buckets, Query, Row};
 use crate::starts::Starts;
 use ts_agg::Aggregator;
 use ts_sample::{Cell, Sample, Units};
@@ -120,4 +121,13 @@ pub(crate) fn empty_cell(agg: Aggregator, before: Option<Sample>) -> Cell
         },
         _ => Cell::Nan,
     }
+}
+
+/// The buckets that a query fills with rows, also those without samples. `None` if it has no EMPTY.
+pub fn gap_filling_buckets(query: &Query) -> Option<Buckets>
+    ensures some { IfSome result (FillsGaps query.now) }
+    ensures none { IfNone result ((buckets : Buckets) → FillsGaps query.now buckets → ⊥) }
+{
+    let buckets = query.buckets?;
+    if buckets.empty { Some(buckets) } else { None }
 }

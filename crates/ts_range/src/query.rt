@@ -1,8 +1,7 @@
 // A query over one series, the rows that answer it, and why it fails.
-ghost use Rattle.std.specs.Prelude.{◌≤◌, All, IfNone, IfSome, Some};
+ghost use Rattle.std.specs.Prelude.{◌≤◌, All, Some};
 ghost use Rattle.std.specs.Option.{ForSome};
 ghost use Rattle.ts_spec.specs.Sample.{MAX_TIME};
-ghost use Rattle.ts_range.specs.BucketRanges.{FillsGaps};
 ghost use Rattle.ts_range.specs.FaultNames.{name_of};
 
 use std::alloc::AllocError;
@@ -67,15 +66,6 @@ pub struct Asked {
     pub ahead: Option<Sample>,
     /// The times of the first and the last sample of the series, in milliseconds.
     pub ends: Option<(u64, u64)>,
-}
-
-/// The buckets of a query with EMPTY.
-pub fn gap_filling_buckets(query: &Query) -> Option<Buckets>
-    ensures some { IfSome result (FillsGaps query.now) }
-    ensures none { IfNone result ((buckets : Buckets) → FillsGaps query.now buckets → ⊥) }
-{
-    let buckets = query.buckets?;
-    if buckets.empty { Some(buckets) } else { None }
 }
 
 /// Why a query fails.

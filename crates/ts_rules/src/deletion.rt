@@ -8,7 +8,8 @@ ghost use Rattle.ts_spec.specs.StoredUpdates.{recounted_bucket, lies_in};
 ghost use Rattle.ts_rules.specs.Rules.{stored_rule_for, one_of, IsChanged};
 ghost use Rattle.ts_rules.specs.Deletions.{gone_of, left_of, is_lost, row_left, rule_left};
 
-use crate::rule::{Rule, opened, row};
+use crate::open_bucket::{opened, row};
+use crate::rule::Rule;
 use ts_agg::Running;
 use ts_sample::Sample;
 use ts_series::Series;

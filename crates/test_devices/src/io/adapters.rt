@@ -3,6 +3,7 @@ use crate::io::calls::{read_two, time_of, write_once};
 use std::io;
 use std::io::{Read, Write};
 use std::test::Fail;
+use std::time::SystemTime;
 use ts_io::{Failed, StdSink, StdSource, SystemClock};
 
 #[test]
@@ -38,10 +39,21 @@ fn a_write_that_is_not_flushed_has_failed(rt: HostRuntime) {
     assert!(rt; sink.unacknowledged() == 3);
 }
 
+// The milliseconds since 1970, by std.
+fn milliseconds(rt: &HostRuntime) -> Result<u128, Fail> {
+    match SystemTime::now(rt)?.duration_since(SystemTime::UNIX_EPOCH) {
+        Ok(since) => Ok(since.as_millis()),
+        Err(_) => Err("before 1970".into()),
+    }
+}
+
 #[test]
 fn the_system_tells_the_time(rt: HostRuntime) -> Result<(), Fail> {
     let mut clock = SystemClock::new(rt.clone()?);
-    assert!(rt; time_of(&mut clock) > 0);
+    let before = milliseconds(&rt)?;
+    let time = u128::from(time_of(&mut clock));
+    let after = milliseconds(&rt)?;
+    assert!(rt; before <= time && time <= after);
     Ok(())
 }
 

@@ -38,7 +38,9 @@ fn a_file_is_a_log_for_one_at_a_time(rt: HostRuntime) -> Result<(), Fail> {
     let mut buf = [0; 4];
     let mut log = FileLog::new(&rt);
     assert!(rt; append_all_counted(&mut log, b"abc") == Err(Failed));
+    assert!(rt; log.cut(0) == Err(Failed));
     assert!(rt; log.sync() == Err(Failed));
+    assert!(rt; read_log(&mut log, &mut buf) == Err(Failed));
     assert!(rt; log.open(name) == Ok(()));
     assert!(rt; read_log(&mut log, &mut buf) == Ok(0));
     assert!(rt; append_all_counted(&mut log, b"abcdef") == Ok(()));
@@ -93,4 +95,12 @@ fn gathered_records_leave_in_one_write(rt: HostRuntime) -> Result<(), Fail> {
     drop(gathered);
     assert!(rt; log.bytes() == b"onetwo".as_slice());
     Ok(())
+}
+
+#[test]
+fn a_log_is_a_regular_file(rt: HostRuntime) {
+    let mut log = FileLog::new(&rt);
+    assert!(rt; log.open("/dev/null") == Err(Failed));
+    assert!(rt; log.open(".") == Err(Failed));
+    assert!(rt; log.open("no/such/folder/some.log") == Err(Failed));
 }

@@ -8,7 +8,7 @@ use Rattle.ts_execution.proofs.loading.load.Goals as goal
 
 pub loop-taken-init : goal.loop-taken-init
 loop-taken-init g c = record {
-  so_far = read-none c.args.limits _ _ _ (λ more. c.new.ensures.stream more ∙ ap (λ l. stream_at l 0 more) c.limits_of.ensures.exact) refl refl;
+  so_far = read-none c.args.limits _ _ _ _ (λ more. c.new.ensures.stream more ∙ ap (λ l. stream_at l 0 more) c.limits_of.ensures.exact) refl refl;
   within = omega (arith, c.new.ensures.fed);
   place = c.requires.start;
   most = omega arith;
@@ -18,7 +18,7 @@ loop-taken-init g c = record {
 
 pub loop-taken-preserved : goal.loop-taken-preserved
 loop-taken-preserved g c = record {
-  so_far = read-more c.args.limits _ _ _ _ _ _ _ _ _ _ c.loop-taken.invariant.so_far c.in-Read.ensures.takes;
+  so_far = read-more c.args.limits _ _ _ _ _ _ _ _ _ _ _ _ c.loop-taken.invariant.so_far c.in-Read.ensures.takes;
   within = search rules;
   place = search rules;
   most = search rules;
@@ -37,7 +37,7 @@ returns-clause-loaded g c = carries_as _ _ _ _ (λ from to so bytes told. tt) c.
 
 pub returns-clause-enough : goal.returns-clause-enough
 returns-clause-enough g c = λ bytes told spent.
-    let most : c.loop-taken.taken ≤ length bytes = read-at-most c.args.limits _ _ _ _ c.requires.start _ _ _ c.loop-taken.invariant.so_far bytes told in
+    let most : c.loop-taken.taken ≤ length bytes = read-at-most c.args.limits _ _ _ _ c.requires.start _ _ _ _ c.loop-taken.invariant.so_far bytes told in
     search rules
 
 pub returns-in-Read-eq0-clause-loaded : goal.returns-in-Read-eq0-clause-loaded
@@ -45,12 +45,12 @@ returns-in-Read-eq0-clause-loaded g c =
     let none : c.in-Read-eq0.field-0 ≡ 0 = grind (arith, nat_tests, c.in-Read-eq0.field-0-is, c.in-Read-eq0.field-0-test) in
     let between = unread (g.J.Log.content c.loop-taken.log) (g.J.Log.place c.loop-taken.log) in
     let rest = unread (g.J.Log.content c.read_piece.new.log) (g.J.Log.place c.read_piece.new.log) in
-    read-to-end c.args.limits (g.J.Log.content c.args.log.now) between rest _ c.loop-taken.taken c.in-Read-eq0.field-0 c.requires.start _ _ _ _ _ c.loop-taken.invariant.so_far c.in-Read-eq0.ensures.takes none (c.in-Read-eq0.ensures.at_end (search rules)) c.verdict.result c.verdict.ensures
+    read-to-end c.args.limits (g.J.Log.content c.args.log.now) between rest _ c.loop-taken.taken c.in-Read-eq0.field-0 c.requires.start _ _ _ _ _ _ _ c.loop-taken.invariant.so_far c.in-Read-eq0.ensures.takes none (c.in-Read-eq0.ensures.at_end (search rules)) c.verdict.result c.verdict.ensures
 
 pub returns-in-Read-eq0-clause-within : goal.returns-in-Read-eq0-clause-within
 returns-in-Read-eq0-clause-within g c =
     let none : c.in-Read-eq0.field-0 ≡ 0 = grind (arith, nat_tests, c.in-Read-eq0.field-0-is, c.in-Read-eq0.field-0-test) in
-    ends-within c.verdict.result c.read_piece.new.loading c.loop-taken.taken _ c.verdict.ensures c.in-Read-eq0.ensures.takes.current
+    ends-within c.verdict.result c.read_piece.new.loading c.read_piece.new.is_record c.loop-taken.taken _ c.verdict.ensures c.in-Read-eq0.ensures.takes.current
     (omega (arith, none, c.in-Read-eq0.ensures.takes.within, c.loop-taken.invariant.within)) (search rules)
 
 pub returns-in-Read-eq0-clause-judged : goal.returns-in-Read-eq0-clause-judged
@@ -58,6 +58,6 @@ returns-in-Read-eq0-clause-judged g c = λ bytes told judged.
     let none : c.in-Read-eq0.field-0 ≡ 0 = grind (arith, nat_tests, c.in-Read-eq0.field-0-is, c.in-Read-eq0.field-0-test) in
     let between = unread (g.J.Log.content c.loop-taken.log) (g.J.Log.place c.loop-taken.log) in
     let rest = unread (g.J.Log.content c.read_piece.new.log) (g.J.Log.place c.read_piece.new.log) in
-    let all : length bytes ≡ c.loop-taken.taken = whole-size c.args.limits (g.J.Log.content c.args.log.now) between rest _ c.loop-taken.taken c.in-Read-eq0.field-0 c.requires.start _ _ _ _ _
+    let all : length bytes ≡ c.loop-taken.taken = whole-size c.args.limits (g.J.Log.content c.args.log.now) between rest _ c.loop-taken.taken c.in-Read-eq0.field-0 c.requires.start _ _ _ _ _ _ _
     c.loop-taken.invariant.so_far c.in-Read-eq0.ensures.takes none (c.in-Read-eq0.ensures.at_end (search rules)) bytes told in
     search rules

@@ -1,4 +1,4 @@
-use Rattle.ts_execution.proofs.loading.read_piece.Given as goal
+use Rattle.ts_execution.proofs.journal_piece.read_piece.Given as goal
 
 abbrev pub ghosts-replay_piece : goal.ghosts-replay_piece
 ghosts-replay_piece g a = record { name = a.blank.name; parts = a.blank.parts }
