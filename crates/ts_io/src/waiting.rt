@@ -22,14 +22,13 @@ pub struct Waiting {
 }
 
 impl Model for Waiting {
-    ghost use Rattle.std.specs.Prelude.{◌≤◌, ◌^◌, List, ℕ, drop, length};
+    ghost use Rattle.std.specs.Prelude.{◌≤◌, List, ℕ, drop, length};
 
     ghost Value = { List ℕ };
 
     ghost view = { λ w. drop w.sent w.bytes.items };
 
-    // What was sent is moved out before it makes the buffer larger than twice the limit.
-    ghost invariant = { λ w. (w.sent ≤ length w.bytes.items) × (length w.bytes.items ≤ 2 ^ 27) };
+    ghost invariant = { λ w. w.sent ≤ length w.bytes.items };
 }
 
 impl Waiting {
@@ -74,8 +73,7 @@ impl Waiting {
             return Err(Full);
         }
         if self.sent >= self.len() {
-            self.bytes.drain(..self.sent);
-            self.sent = 0;
+            self.compact();
         }
         match self.bytes.extend_from_slice(bytes) {
             Ok(()) => Ok(()),

@@ -2,7 +2,7 @@
 use crate::io::calls::read_log;
 use std::fs;
 use std::test::Fail;
-use ts_io::{Failed, FileLog, Log, MemLog, append_all_counted};
+use ts_io::{Failed, FileLog, Gathered, Log, MemLog, append_all_counted};
 
 #[test]
 fn a_log_in_memory_fails_at_its_numbers_and_goes_on(rt: HostRuntime) -> Result<(), Fail> {
@@ -39,10 +39,12 @@ fn a_file_is_a_log_for_one_at_a_time(rt: HostRuntime) -> Result<(), Fail> {
     let mut log = FileLog::new(&rt);
     assert!(rt; append_all_counted(&mut log, b"abc") == Err(Failed));
     assert!(rt; log.cut(0) == Err(Failed));
+    assert!(rt; log.sync() == Err(Failed));
     assert!(rt; read_log(&mut log, &mut buf) == Err(Failed));
     assert!(rt; log.open(name) == Ok(()));
     assert!(rt; read_log(&mut log, &mut buf) == Ok(0));
     assert!(rt; append_all_counted(&mut log, b"abcdef") == Ok(()));
+    assert!(rt; log.sync() == Ok(()));
     let mut other = FileLog::new(&rt);
     assert!(rt; other.open(name) == Err(Failed));
     assert!(rt; fs::read(&rt, name)?.as_slice() == b"abcdef".as_slice());
@@ -69,6 +71,29 @@ fn a_file_is_a_log_for_one_at_a_time(rt: HostRuntime) -> Result<(), Fail> {
     assert!(rt; read_log(&mut other, &mut buf) == Ok(4));
     assert!(rt; buf == *b"abxy");
     fs::remove_file(&rt, name)?;
+    Ok(())
+}
+
+#[test]
+fn gathered_records_leave_in_one_write(rt: HostRuntime) -> Result<(), Fail> {
+    let fail = [3].to_vec(rt.alloc())?;
+    let mut log = MemLog::new(Vec::new(rt.alloc()), fail);
+    let mut gathered = Gathered::new(rt.alloc(), &mut log);
+    assert!(rt; gathered.settle() == Ok(()));
+    assert!(rt; gathered.sync() == Ok(()));
+
+    // The first call: one append of both.
+    assert!(rt; gathered.add(b"one") == Ok(()));
+    assert!(rt; gathered.add(b"two") == Ok(()));
+    assert!(rt; gathered.settle() == Ok(()));
+
+    // The second call. What is synced is not synced again.
+    assert!(rt; gathered.sync() == Ok(()));
+    assert!(rt; gathered.sync() == Ok(()));
+    assert!(rt; gathered.add(b"three") == Ok(()));
+    assert!(rt; gathered.settle() == Err(Failed));
+    drop(gathered);
+    assert!(rt; log.bytes() == b"onetwo".as_slice());
     Ok(())
 }
 
