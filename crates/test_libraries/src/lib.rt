@@ -15,7 +15,6 @@ mod group;
 #[cfg(test)]
 mod multi;
 #[cfg(test)]
-mod mux;
 #[cfg(test)]
 mod range;
 #[cfg(test)]
