@@ -167,22 +167,3 @@ module _ (s : Store) (db : IsDb s) (key : Key) (id : Id) (n : Node) (holds : Hol
       let rules : sum_by (rule_deletion_steps (db_view_of s) key from to) (stored_rules_at (get key (db_view_of s).keys)) ≡ shares_of s.nodes (Delete from to) n.series n.rules.items =
       ap (λ (o : Option StoredSeries). sum_by (rule_deletion_steps (db_view_of s) key from to) (stored_rules_at o)) own ∙ sym (shares-delete from to n.rules.items live) in
       sym (λ i. 3 * far i + rules i)
-
--- ---- a series that is new
-
-small-limits : (format : List Point → List ℕ) (n : ℕ) (pss : List (List Point)) (ns : List ℕ) → n ≤ greatest_limit → AreChunks format pss ns → greatest n ns ≤ greatest_limit
-small-limits format n [] [] small h = small
-small-limits format n [] (m ∷ ns) small h = absurd h
-small-limits format n (ps ∷ pss) [] small h = absurd h
-small-limits format n (ps ∷ pss) (m ∷ ns) small h = omega (arith, h.0.bounds.greatest, small-limits format n pss ns small h.1.1)
-
-small-new : (size : ℕ) → limit_for size ≤ greatest_limit
-small-new size = omega arith
-
--- the reach of a series is far below the greatest limit of samples
-pub reach-small : (h : History) → IsKept h → reach h < 2 ^ 20
-reach-small h kept = omega (arith, small-limits (format_of h.options.encoding) (limit_for h.options.chunk_size) h.held.pieces h.held.limits (small-new h.options.chunk_size) kept.chunks.chunks)
-
--- an empty series with this much capacity takes a sample without steps
-pub few-new : (h : History) → IsKept h → list_of h ≡ [] → length (list_of h) + reach h < 2 ^ 32 - 1
-few-new h kept empty = omega (arith, reach-small h kept, ap (λ (ps : List Point). length ps) empty)

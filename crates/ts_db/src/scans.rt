@@ -88,9 +88,6 @@ impl Db {
         ensures cuts { (t : ℕ) → Around (suc t) t (reach_at self.now (key_of_id self.now.ids id))
             (chunk_samples_at self.now (key_of_id self.now.ids id)) }
     {
-        let series = &self.node(id).series;
-        series.seams();
-        series.cuts();
-        series.chunk_reach()
+        self.node(id).series.chunk_reach()
     }
 }

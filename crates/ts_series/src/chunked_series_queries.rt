@@ -25,25 +25,13 @@ impl<C: Chunk> ChunkedSeries<C> {
         }
     }
 
-    // Does nothing at run time. Its contract states that there are seams near each interval: times that split no
-    // chunk.
-    pub(crate) fn seams(&self)
-        ensures { (from to : ℕ)
-            → Around from to (length (between from to (list_of self.now)) + 2 * reach self.now) self.now.held.pieces }
-    {
-        let _chunks = &self.chunks;
-    }
-
-    // Does nothing at run time. Its contract states that any one time splits at most one chunk.
-    pub(crate) fn cuts(&self)
-        ensures { (t : ℕ) → Around (suc t) t (reach self.now) self.now.held.pieces }
-    {
-        let _chunks = &self.chunks;
-    }
-
-    // The largest number of samples a new chunk can hold.
+    // The largest number of samples a new chunk can hold. The contract also bounds the cost of a split scan: near each
+    // interval there are seams, times that split no chunk, and any one time splits at most one chunk.
     pub(crate) fn chunk_reach(&self) -> u64
-        ensures { result ≤ reach self.now }
+        ensures within { result ≤ reach self.now }
+        ensures around { (from to : ℕ)
+            → Around from to (length (between from to (list_of self.now)) + 2 * reach self.now) self.now.held.pieces }
+        ensures cuts { (t : ℕ) → Around (suc t) t (reach self.now) self.now.held.pieces }
     {
         u64::from(new_limit(self.options.chunk_size) / 3)
     }

@@ -160,3 +160,11 @@ impl Series {
         }
     }
 }
+
+// Fails to compile if a field is added, such as a second copy of the samples.
+fn fields(it: &Series) {
+    let Series { by_encoding } = it;
+    match by_encoding {
+        SeriesByEncoding::Plain(_) | SeriesByEncoding::Packed(_) => {}
+    }
+}

@@ -23,31 +23,13 @@ impl Series {
         }
     }
 
-    /// Does nothing at run time. Its contract states that there are seams near each interval: times that split no
-    /// chunk.
-    pub fn seams(&self)
-        ensures { (from to : ℕ)
-            → Around from to (length (between from to (list_of self.now)) + 2 * reach self.now) self.now.held.pieces }
-    {
-        match &self.by_encoding {
-            SeriesByEncoding::Plain(line) => line.seams(),
-            SeriesByEncoding::Packed(line) => line.seams(),
-        }
-    }
-
-    /// Does nothing at run time. Its contract states that any one time splits at most one chunk.
-    pub fn cuts(&self)
-        ensures { (t : ℕ) → Around (suc t) t (reach self.now) self.now.held.pieces }
-    {
-        match &self.by_encoding {
-            SeriesByEncoding::Plain(line) => line.cuts(),
-            SeriesByEncoding::Packed(line) => line.cuts(),
-        }
-    }
-
-    /// The largest number of samples a new chunk can hold.
+    /// The largest number of samples a new chunk can hold. The contract also bounds the cost of a split scan: near each
+    /// interval there are seams, times that split no chunk, and any one time splits at most one chunk.
     pub fn chunk_reach(&self) -> u64
-        ensures { result ≤ reach self.now }
+        ensures within { result ≤ reach self.now }
+        ensures around { (from to : ℕ)
+            → Around from to (length (between from to (list_of self.now)) + 2 * reach self.now) self.now.held.pieces }
+        ensures cuts { (t : ℕ) → Around (suc t) t (reach self.now) self.now.held.pieces }
     {
         match &self.by_encoding {
             SeriesByEncoding::Plain(line) => line.chunk_reach(),
