@@ -37,3 +37,11 @@ adds_after old mid new first second had adds = record {
       ∙ adds_twice old first (take adds.len second)
       ∙ ap (λ (l : List ℕ). append_known old l) (sym (take-append-add first second adds.len));
 }
+
+-- everything was appended, which is the longest prefix
+pub all_as_prefix : (old new : Option (List ℕ)) (bytes : List ℕ) → new ≡ append_known old bytes → AppendsPrefix old new bytes
+all_as_prefix old new bytes added = record {
+  len = length bytes;
+  within = omega arith;
+  added = added ∙ ap (λ (l : List ℕ). append_known old l) (sym (take_all (length bytes) bytes (omega arith)));
+}

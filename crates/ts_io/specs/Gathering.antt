@@ -7,6 +7,10 @@ use Rattle.ts_io.specs.declared.gathered.Gathered.{Gathered}
 abbrev pub log_of : {J : Type 0} → Gathered J → J
 log_of g = g.log.now
 
+-- the identity of the reference to the log
+abbrev pub lent_to : {J : Type 0} → Gathered J → ℕ
+lent_to g = g.log.ghost_name
+
 abbrev pub pending_of : {J : Type 0} → Gathered J → List ℕ
 pending_of g = g.pending.items
 

@@ -2,7 +2,7 @@
 ghost use Rattle.std.specs.Prelude.{◌≡◌, [], ◌++◌, OnOk, OnErr};
 ghost use Rattle.std.specs.Io.KnownBytes.{append_known};
 ghost use Rattle.ts_io.specs.Causes.{HasCause};
-ghost use Rattle.ts_io.specs.Gathering.{log_of, pending_of, whole};
+ghost use Rattle.ts_io.specs.Gathering.{lent_to, log_of, pending_of, whole};
 ghost use Rattle.ts_io.specs.Logs.{AppendsPrefix};
 
 use crate::{Failed, Log, append_all_counted};
@@ -22,6 +22,7 @@ impl<'a, J: Log> Gathered<'a, J> {
     pub fn new(alloc: Global, log: &'a mut J) -> Self
         ensures log { log_of result ≡ log.entry.now }
         ensures pending { pending_of result ≡ [] }
+        ensures same_reference { lent_to result ≡ log.entry.ghost_name }
     {
         Gathered {
             log,
@@ -30,11 +31,23 @@ impl<'a, J: Log> Gathered<'a, J> {
         }
     }
 
+    /// The log. What waits is not appended to it.
+    pub fn into_log(self) -> &'a mut J
+        ensures log { result.now ≡ log_of self.entry }
+        ensures same_reference { result.ghost_name ≡ lent_to self.entry }
+    {
+        let Gathered { log, .. } = self;
+        log
+    }
+
     /// Adds bytes to those that wait. If memory for them runs out, appends everything to the log at once.
     pub fn add(&mut self, bytes: &[u8]) -> Result<(), Failed>
         ensures all { OnOk result (whole J.content self.new ≡ append_known (whole J.content self.old) bytes.now) }
         ensures front { OnErr result (AppendsPrefix (J.content (log_of self.old)) (J.content (log_of self.new))
             (pending_of self.old ++ bytes.now)) }
+        ensures prefix { AppendsPrefix (J.content (log_of self.old)) (J.content (log_of self.new))
+            (pending_of self.old ++ bytes.now) }
+        ensures same_reference { lent_to self.new ≡ lent_to self.old }
         ensures cause { HasCause (J.faults (log_of self.old)) (J.faults (log_of self.new)) result }
     {
         match self.pending.extend_from_slice(bytes) {
@@ -54,6 +67,8 @@ impl<'a, J: Log> Gathered<'a, J> {
         ensures none { OnOk result (pending_of self.new ≡ []) }
         ensures front { OnErr result (AppendsPrefix (J.content (log_of self.old)) (J.content (log_of self.new))
             (pending_of self.old)) }
+        ensures prefix { AppendsPrefix (J.content (log_of self.old)) (J.content (log_of self.new)) (pending_of self.old) }
+        ensures same_reference { lent_to self.new ≡ lent_to self.old }
         ensures cause { HasCause (J.faults (log_of self.old)) (J.faults (log_of self.new)) result }
     {
         if self.pending.is_empty() {
@@ -69,6 +84,7 @@ impl<'a, J: Log> Gathered<'a, J> {
     pub fn sync(&mut self) -> Result<(), Failed>
         ensures content { J.content (log_of self.new) ≡ J.content (log_of self.old) }
         ensures pending { pending_of self.new ≡ pending_of self.old }
+        ensures same_reference { lent_to self.new ≡ lent_to self.old }
         ensures cause { HasCause (J.faults (log_of self.old)) (J.faults (log_of self.new)) result }
     {
         if !self.is_unsynced {

@@ -12,7 +12,7 @@ use std::io::{ErrorKind, Read, Write};
 
 /// The result of a device call from that of its system call: an error exactly if that was one, else the same value.
 /// Counts an error.
-pub(crate) fn checked<T>(outcome: io::Result<T>, faults: &mut u64) -> Result<T, Failed>
+pub fn checked<T>(outcome: io::Result<T>, faults: &mut u64) -> Result<T, Failed>
     ensures same { IsSameOutcome outcome result }
     ensures counts { CountsFailure result faults.old faults.new }
     ensures cause { HasCause faults.old faults.new result }

@@ -1,4 +1,3 @@
-pub mod Answering
 pub mod Apart
 pub mod CaptureLemmas
 pub mod CapturesAtWork
@@ -8,6 +7,7 @@ pub mod Closings
 pub mod Delivery
 pub mod FramingLemmas
 pub mod FramesReadBack
+pub mod LostFrames
 pub mod MuxLemmas
 pub mod OneConnection
 pub mod OrderAtWork

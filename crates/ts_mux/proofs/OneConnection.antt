@@ -3,11 +3,10 @@ use Rattle.std.proofs.Common.{◌≡◌, ℕ, Bool, true, false, ◌||◌, ◌==
 use Rattle.std.proofs.lemmas.Bool.{eqb-true, eqb-false, eq-eqb}
 use Rattle.ts_spec.specs.declared.wire.WireLimits.{WireLimits}
 use Rattle.ts_spec.specs.Wire.{Request, Stream, Then, Ended, Inside, Broken, Start, stream_at}
-use Rattle.ts_spec.specs.Run.{is_quit}
 use Rattle.ts_spec.proofs.Streams.{read_on-nil}
 use Rattle.ts_mux.specs.declared.frame.Frame.{Frame}
 use Rattle.ts_spec.specs.StreamPrefixes.{IsStreamPrefix}
-use Rattle.ts_mux.specs.Order.{Event, Asked, Item, events_of, Connection, new_events, new_events_of, later, ends, up_to_close, has_close, after_bytes, items_of, with_link, items_from, items_at, before_empty_frame, stream, nothing_sent, order}
+use Rattle.ts_mux.specs.Order.{Event, Asked, Item, events_of, Connection, new_events, new_events_of, later, ends, up_to_close, has_close, after_bytes, items_of, with_link, items_from, items_at, before_empty_frame, stream, nothing_sent, order_by}
 use Rattle.ts_spec.proofs.StreamPrefixes.{read_on-front}
 use Rattle.ts_mux.proofs.OrderLemmas.{new_events-later}
 
@@ -165,8 +164,8 @@ one_connection closes link connections (frame ∷ frames) h =
         other false same = ap (λ test. if test then after_bytes closes (connections frame.link) frame.bytes else connections link) same
 
 -- the items of a connection are the events of its stream
-pub items-at : (limits : WireLimits) (link : ℕ) (frames : List Frame)
-    → items_at link (order limits frames) ≡ items_of link (up_to_close is_quit (events_of (stream_at limits 0 (stream link frames))))
-items-at limits link frames =
-    one_connection is_quit link (nothing_sent limits) frames (λ bytes more. read_on-front limits 0 0 Start bytes more)
-    ∙ ap (λ first. items_of link (up_to_close is_quit (drop (length (events_of first)) (events_of (stream_at limits 0 (stream link frames)))))) (read_on-nil limits 0 0 Start)
+pub items-at : (closes : Request → Bool) (limits : WireLimits) (link : ℕ) (frames : List Frame)
+    → items_at link (order_by closes limits frames) ≡ items_of link (up_to_close closes (events_of (stream_at limits 0 (stream link frames))))
+items-at closes limits link frames =
+    one_connection closes link (nothing_sent limits) frames (λ bytes more. read_on-front limits 0 0 Start bytes more)
+    ∙ ap (λ first. items_of link (up_to_close closes (drop (length (events_of first)) (events_of (stream_at limits 0 (stream link frames)))))) (read_on-nil limits 0 0 Start)

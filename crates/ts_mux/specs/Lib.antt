@@ -1,4 +1,3 @@
-pub mod Answering
 pub mod Capture
 pub mod ClosedLinks
 pub mod Framing

@@ -81,17 +81,20 @@ items_from closes connections (frame ∷ frames) =
 abbrev pub nothing_sent : WireLimits → ℕ → Connection
 nothing_sent limits link = Some (stream_at limits 0)
 
--- The items of these frames, in order. A QUIT closes its connection.
+-- the items of these frames, in order
+abbrev pub order_by : (closes : Request → Bool) → WireLimits → List Frame → List Item
+order_by closes limits frames = items_from closes (nothing_sent limits) frames
+
+-- the same if only QUIT closes its connection
 abbrev pub order : WireLimits → List Frame → List Item
-order limits frames = items_from is_quit (nothing_sent limits) frames
+order limits frames = order_by is_quit limits frames
 
 -- no request closes its connection
 abbrev pub never_closes : Request → Bool
 never_closes request = false
 
--- the same order, but a QUIT closes nothing
 abbrev pub order_without_quits : WireLimits → List Frame → List Item
-order_without_quits limits frames = items_from never_closes (nothing_sent limits) frames
+order_without_quits limits frames = order_by never_closes limits frames
 
 -- the items of a connection, and those of all others
 abbrev pub items_at : ℕ → List Item → List Item

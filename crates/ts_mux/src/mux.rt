@@ -89,6 +89,7 @@ impl Mux {
             → pending_items self.new frames ≡ pending_items self.old frames) }
         ensures not_yet { OnNotYet result (pending_items self.new [] ≡ []) }
         ensures reached { IfLink result (λ link. link < reach_of self.new) }
+        ensures reach { reach_of self.new ≡ reach_of self.old }
         ensures delivered { delivered_to self.new ≡ delivered_to self.old }
     {
         match self.ask() {
@@ -117,6 +118,7 @@ impl Mux {
         ensures words { IfRequest result (λ words. words ≢ []) }
         ensures gives { IsNextTurn result (pending_items self.old) (pending_items self.new) }
         ensures reached { IfLink result (λ link. link < reach_of self.new) }
+        ensures reach { reach_of self.new ≡ reach_of self.old }
         ensures delivered { delivered_to self.new ≡ delivered_to self.old }
     {
         match &mut self.current_connection {

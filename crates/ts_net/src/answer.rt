@@ -1,11 +1,9 @@
 // What the system answered, with nothing hidden.
-ghost use Rattle.std.specs.Prelude.{◌≡◌, ◌≢◌, Ok, IfOk, IfErr, IsErr, OnErr};
+ghost use Rattle.std.specs.Prelude.{◌≡◌, ◌≢◌, IfOk, IfErr};
 ghost use Rattle.std.specs.IoError.{error_kind};
-ghost use Rattle.ts_io.specs.Causes.{HasCause, saturating_succ};
 
 use std::io;
 use std::io::ErrorKind;
-use ts_io::Failed;
 
 /// What a read or a write of a socket came to.
 #[derive(Clone, Copy, PartialEq, Eq)]
@@ -38,21 +36,5 @@ pub(crate) fn answer_of(outcome: io::Result<usize>) -> Answer
             ErrorKind::Interrupted => Answer::Interrupted,
             _ => Answer::Failed,
         },
-    }
-}
-
-/// Passes on the outcome of a call, and counts an error. The count stops at `u64::MAX`.
-pub(crate) fn counted<T>(outcome: io::Result<T>, faults: &mut u64) -> Result<T, Failed>
-    ensures value { IfOk outcome (λ value. result ≡ Ok value) }
-    ensures error { IsErr outcome → IsErr result }
-    ensures cause { HasCause faults.old faults.new result }
-    ensures rose { OnErr result (faults.new ≡ saturating_succ faults.old) }
-{
-    match outcome {
-        Ok(value) => Ok(value),
-        Err(_) => {
-            *faults = faults.saturating_add(1);
-            Err(Failed)
-        }
     }
 }

@@ -1,11 +1,10 @@
 // A hub over TCP.
 ghost use Rattle.std.specs.Prelude.{◌≡◌, None, take};
 
-use crate::answer::counted;
 use crate::links::Links;
 use std::alloc::Global;
 use std::net::Net;
-use ts_io::{Failed, Hub, Next};
+use ts_io::{Failed, Hub, Next, checked};
 
 /// A hub over the system's network, which counts its errors. The proofs assume nothing about what it sends and receives.
 ///
@@ -39,12 +38,12 @@ impl<R: Net> Hub for TcpHub<R> {
 
     /// The address is a host and a port, such as `localhost:7379`. Fails if the hub listens already.
     fn open(&mut self, address: &str) -> Result<(), Failed> {
-        counted(self.links.listen(address), &mut self.faults)
+        checked(self.links.listen(address), &mut self.faults)
     }
 
     /// Never returns `End`. Fails only if it is not listening, or if waiting fails.
     fn next(&mut self) -> Result<Next, Failed> {
-        counted(self.links.find(), &mut self.faults)
+        checked(self.links.find(), &mut self.faults)
     }
 
     fn bytes(&self) -> &[u8] {

@@ -5,7 +5,8 @@ ghost use Rattle.ts_resp.specs.Reading.{fed};
 ghost use Rattle.ts_mux.specs.declared.frame.Frame.{Frame};
 ghost use Rattle.ts_mux.specs.ClosedLinks.{is_closed};
 ghost use Rattle.ts_mux.specs.Links.{pending_items_of};
-ghost use Rattle.ts_mux.specs.Muxing.{pending_items, delivered_to, reach_of};
+ghost use Rattle.ts_mux.specs.Order.{without};
+ghost use Rattle.ts_mux.specs.Muxing.{pending_items, delivered_to, reach_of, is_inside_request};
 
 use super::Mux;
 use crate::current_connection::CurrentConnection;
@@ -14,7 +15,8 @@ use std::mem;
 use ts_resp::Reader;
 
 impl Mux {
-    /// Delivers a frame whose bytes stand elsewhere. On an error nothing was delivered.
+    /// Delivers a frame whose bytes stand elsewhere. On an error nothing was delivered; if the connection is closed then,
+    /// the others yield what they would have yielded.
     pub fn deliver_bytes(&mut self, link: u64, bytes: &[u8]) -> Result<(), AllocError>
         requires asked { pending_items self.old [] ≡ [] }
         requires bound { delivered_to self.old + length bytes.now < 2 ^ 64 }
@@ -24,6 +26,10 @@ impl Mux {
         ensures err { OnErr result ((frames : List Frame)
             → pending_items self.new frames ≡ pending_items self.old frames) }
         ensures err_delivered { OnErr result (delivered_to self.new ≡ delivered_to self.old) }
+        ensures lost { OnErr result ((frames : List Frame) → without link (pending_items self.new frames)
+            ≡ without link (pending_items self.old (record { link = link; bytes = bytes.now } ∷ frames))) }
+        ensures own { OnOk result (without link (pending_items self.new []) ≡ []) }
+        ensures longer { reach_of self.old ≤ reach_of self.new }
     {
         self.reach(link)?;
         if bytes.is_empty() {
@@ -38,13 +44,30 @@ impl Mux {
         Ok(())
     }
 
-    // Allocates what it takes to close this connection.
-    pub(super) fn reach(&mut self, link: u64) -> Result<(), AllocError>
+    /// Allocates what it takes to close this connection and all with lower numbers. Meant for numbers that are given out
+    /// in order.
+    pub fn reach(&mut self, link: u64) -> Result<(), AllocError>
         ensures reached { OnOk result (link < reach_of self.new) }
+        ensures longer { reach_of self.old ≤ reach_of self.new }
         ensures same { (frames : List Frame) → pending_items self.new frames ≡ pending_items self.old frames }
         ensures delivered { delivered_to self.new ≡ delivered_to self.old }
     {
         self.closed.reach(link)
+    }
+
+    /// Whether a connection has sent part of a request that is not complete. Allocates nothing.
+    pub fn is_inside_request(&self, link: u64) -> bool
+        ensures { result ≡ is_inside_request self.now link }
+    {
+        if let Some(at) = &self.current_connection
+            && at.link == link
+        {
+            return at.reader.place().is_some();
+        }
+        match self.readers.get(&link) {
+            Some(reader) => reader.place().is_some(),
+            None => false,
+        }
     }
 
     // Feeds bytes to an open connection and makes it the current one.
@@ -61,6 +84,7 @@ impl Mux {
         ensures err { OnErr result ((frames : List Frame)
             → pending_items self.new frames ≡ pending_items self.old frames) }
         ensures err_delivered { OnErr result (delivered_to self.new ≡ delivered_to self.old) }
+        ensures reach { reach_of self.new ≡ reach_of self.old }
     {
         self.store_current()?;
         let mut reader = self.load_reader(link);
