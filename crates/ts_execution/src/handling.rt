@@ -106,7 +106,7 @@ pub(crate) fn reading_for<C: Clock>(command: &Command, clock: &mut C) -> u64
 }
 
 // The clock reading in milliseconds if the sample's time is the clock's, and 0 otherwise.
-fn reading_at<C: Clock>(at: At, clock: &mut C) -> u64
+pub(crate) fn reading_at<C: Clock>(at: At, clock: &mut C) -> u64
     ensures reading { IsReading (is_clock at) (C.readings clock.old) result }
     ensures left { C.readings clock.new ≡ readings_after_use (is_clock at) (C.readings clock.old) }
 {

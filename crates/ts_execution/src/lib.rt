@@ -16,6 +16,7 @@ mod names;
 mod next_change;
 mod plain_add;
 mod recorded;
+mod recorded_add;
 mod redis_commands;
 
 pub use execution::{execute, triples_with_memory_are_one_step};

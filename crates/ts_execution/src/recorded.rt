@@ -13,9 +13,11 @@ ghost use Rattle.ts_execution.specs.Recording.{record_bytes, HasRecord};
 use crate::answers::fault_reply;
 use crate::execution::execute_with_hints;
 use crate::handling::{reading_for, says_quit};
+use crate::recorded_add::record_addition;
 use std::alloc::{AllocError, Global};
+use std::mem;
 use std::sync::ledger::Ledger;
-use ts_command::{Command, read};
+use ts_command::{Command, SimpleAdd, read};
 use ts_db::{Db, Hints};
 use ts_io::Clock;
 use ts_journal::Record;
@@ -31,8 +33,45 @@ pub struct Handled {
 }
 
 /// Handles a request and leaves its reply in `room`. Allocates its record before it executes the request; if that
-/// fails, the request fails with out of memory.
+/// fails, the request fails with out of memory. Moves arguments that the command stores out of `words`.
 pub fn handle_recorded<C: Clock, L: Ledger>(
+    db: &mut Db,
+    hints: &mut Hints,
+    words: &mut Vec<Word>,
+    clock: &mut C,
+    room: &mut Out,
+    steps: &mut Steps<L>,
+) -> Handled
+    requires { 128 ≤ length room.old.bytes + room.old.spare }
+    ensures recorded { Simulates db.old db.new
+        (λ from to. Recorded words.old.items (record { held = from; readings = C.readings clock.old })
+        room.new.bytes (record_bytes result.entry room.new.bytes)
+        (record { held = to; readings = C.readings clock.new })) }
+    ensures quits { result.quits ≡ is_quit words.old.items }
+    ensures room { 128 ≤ length room.new.bytes + room.new.spare }
+{
+    let alloc = *words.allocator();
+    let Some(addition) = SimpleAdd::read(words) else {
+        return record_command(
+            alloc,
+            db,
+            hints,
+            mem::replace(words, Vec::new(alloc)),
+            clock,
+            room,
+            steps,
+        );
+    };
+    let entry = record_addition(alloc, db, hints, &addition, clock, room, steps);
+    Handled {
+        quits: false,
+        entry,
+    }
+}
+
+// The same for any other command. A `Command` is large, so this is not inlined into the caller.
+#[inline(never)]
+fn record_command<C: Clock, L: Ledger>(
     alloc: Global,
     db: &mut Db,
     hints: &mut Hints,

@@ -1,12 +1,13 @@
 // The record of one change.
 ghost use Rattle.std.specs.Prelude.{◌≡◌, is_some, IfOk, IfSome};
 
+use crate::changes::{draft_add, time_of};
 use crate::draft::Draft;
 use crate::fixed::{draft_fixed, is_fixed};
 use crate::reply::is_error;
 use crate::triples::Triples;
 use std::alloc::{AllocError, Global};
-use ts_command::Command;
+use ts_command::{Command, SimpleAdd};
 use ts_resp::Out;
 
 // What is known of a record before the reply.
@@ -27,6 +28,7 @@ pub struct Record {
 
 impl Record {
     ghost use Rattle.ts_command.specs.Reading.{command_of};
+    ghost use Rattle.ts_command.specs.SimpleAdd.{simple_add_of};
     ghost use Rattle.ts_journal.specs.Content.{told};
     ghost use Rattle.ts_journal.specs.Record.{is_change, IsRecordOf};
 
@@ -55,6 +57,29 @@ impl Record {
         Ok(Some(Record {
             held: Content::Fixed(draft.close()),
         }))
+    }
+
+    /// Prepares the record of TS.ADD without options other than ON_DUPLICATE, without building its command. The record
+    /// is the one that `take` makes of that command. Allocates all memory that the record needs.
+    pub fn of_addition(
+        alloc: Global,
+        addition: &SimpleAdd,
+        reading: u64,
+    ) -> Result<Record, AllocError>
+        ensures { IfOk result (λ record_. IsRecordOf reading (simple_add_of addition.now) (told record_)) }
+    {
+        let mut draft = Draft::new(alloc)?;
+        draft_add(
+            &mut draft,
+            addition.key,
+            time_of(addition.at, reading),
+            addition.value,
+            addition.on,
+            &SimpleAdd::spec(alloc),
+        )?;
+        Ok(Record {
+            held: Content::Fixed(draft.close()),
+        })
     }
 
     /// Returns the record, given the text of the command's reply. It is empty if nothing was accepted. Allocates
