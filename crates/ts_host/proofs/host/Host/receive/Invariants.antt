@@ -1,0 +1,4 @@
+use Rattle.ts_host.proofs.host.Host.receive.Given as goal
+
+abbrev pub ghosts-answer_all : goal.ghosts-answer_all
+ghosts-answer_all g a = record { name = a.blank.name; parts = a.blank.parts }

@@ -1,0 +1,12 @@
+pub mod Answers
+pub mod Beginning
+pub mod Causes
+pub mod Executing
+pub mod Http
+pub mod Leaving
+pub mod Recorder
+pub mod RequestCounts
+pub mod Serving
+pub mod Settling
+pub mod Shown
+pub mod Steps
