@@ -6,7 +6,7 @@ use crate::texts::Exchange;
 use std::alloc::{AllocError, Global};
 use std::io::Read;
 use ts_engine::{Db, Outcome, pipe, top};
-use ts_io::{Ends, MemClock, MemListener, MemSink, MemSource, Source, StdSource};
+use ts_io::{Ends, MemClock, MemHub, MemListener, MemSink, MemSource, Source, StdSource};
 
 // A stream, with what is sent and expected.
 #[derive(Drop)]
@@ -72,6 +72,7 @@ fn is_answered_over<S: Source + Drop>(
     }
     let mut net = MemListener::new(alloc, coming, failing)?;
     let mut log = setting.journal.log()?;
+    let mut hub = MemHub::new(alloc, Vec::new(alloc), Vec::new(alloc));
     let status = top(
         alloc,
         &setting.words(alloc)?,
@@ -81,6 +82,7 @@ fn is_answered_over<S: Source + Drop>(
         &mut clock,
         &mut net,
         &mut log,
+        &mut hub,
         setting.usable_limits(),
         setting.budget.max(1),
     );

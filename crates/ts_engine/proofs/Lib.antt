@@ -5,6 +5,12 @@ pub mod Causes
 pub mod Executions
 pub mod FramesWritten
 pub mod Headlines
+pub mod HostLoads
+pub mod HostPrefixItems
+pub mod HostPrefixLemmas
+pub mod HostPrefixRuns
+pub mod HostRuns
+pub mod HostStatuses
 pub mod Journalings
 pub mod JournaledTurnLemmas
 pub mod JournaledInputs

@@ -7,6 +7,7 @@ use Rattle.ts_engine.specs.declared.piped.End.{End}
 use Rattle.ts_engine.specs.declared.piped.End.TheVariants as end
 use Rattle.ts_words.specs.Modes.{same, mode_of}
 use Rattle.ts_words.specs.declared.mode.Mode.TheVariants as mode
+use Rattle.ts_words.specs.declared.mode.Storage.{Storage}
 use Rattle.ts_words.specs.declared.status.Status.{Status}
 use Rattle.ts_words.specs.declared.status.Status.TheVariants as status
 use Rattle.ts_execution.specs.Handler.{Handler}
@@ -75,3 +76,10 @@ pub keep-words : (words : List (List ℕ)) → Some mode.Keep ≡ mode_of words 
 keep-words [] is = absurd (cc)
 keep-words (word ∷ []) is = absurd (one-not-keep (same word (codes "pipe")) (same word (codes "mux")) (sym is))
 keep-words (word ∷ name ∷ words) is = omega arith
+
+-- the mode `host` has one storage
+pub same-storage : (words : List (List ℕ)) (one two : Storage) → Some (mode.Host one) ≡ mode_of words → mode_of words ≡ Some (mode.Host two) → one ≡ two
+same-storage words one two first second = go one two (first ∙ second)
+  where
+    go : (one two : Storage) → Some (mode.Host one) ≡ Some (mode.Host two) → one ≡ two
+    go one two is = (cc)

@@ -5,6 +5,7 @@ pub mod Ending
 pub mod Generated
 pub mod SessionEnd
 pub mod Headline
+pub mod HostPrefixes
 pub mod Journaled
 pub mod JournalAppends
 pub mod JournalPrefixes
@@ -16,6 +17,8 @@ pub mod Serving
 pub mod Session
 pub mod SessionView
 pub mod Status
+pub mod HostEnds
+pub mod Hosted
 pub mod InputTaken
 pub mod Top
 pub mod NotJournaled

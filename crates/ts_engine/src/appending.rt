@@ -6,7 +6,6 @@ ghost use Rattle.ts_io.specs.Logs.{AppendsPrefix};
 ghost use Rattle.ts_execution.specs.Recording.{record_bytes};
 
 use crate::journaling::Journaled;
-use std::mem;
 use std::sync::ledger::Ledger;
 use ts_db::{Db, Hints};
 use ts_execution::handle_recorded;
@@ -44,16 +43,7 @@ impl<J: Log> Journaled<'_, J> {
             (record { failed = self.new.failed; count = J.faults self.new.log.now }) }
         ensures lent { self.new.log.ghost_name ≡ self.old.log.ghost_name }
     {
-        let alloc = *words.allocator();
-        let taken = handle_recorded(
-            alloc,
-            db,
-            hints,
-            mem::replace(words, Vec::new(alloc)),
-            clock,
-            room,
-            steps,
-        );
+        let taken = handle_recorded(db, hints, words, clock, room, steps);
         match append_record(self.log, taken.entry, room.bytes()) {
             Ok(()) => {}
             Err(failed) => {

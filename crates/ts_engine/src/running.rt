@@ -1,25 +1,31 @@
 // The function `top`: runs the mode that the command line selects.
-ghost use Rattle.std.specs.Prelude.{◌≡◌, ◌≢◌, ◌⊎◌, ◌≤◌, ◌<◌, ℕ, false, List, length, take, None, Some, ◌^◌};
+ghost use Rattle.std.specs.Prelude.{◌≡◌, ◌≢◌, ◌⊎◌, ◌≤◌, ◌<◌, ℕ, true, false, List, length, take, None, Some, ◌^◌};
 ghost use Rattle.ts_io.specs.Causes.{Rose};
+ghost use Rattle.ts_io.specs.declared.hub.Step.{Step};
 ghost use Rattle.ts_journal.specs.Limits.{IsBounded};
+ghost use Rattle.ts_host.specs.Steps.{weight};
 ghost use Rattle.ts_engine.specs.Asked.{asked, IsServe, IsGen, Connections, AllServed};
 ghost use Rattle.ts_engine.specs.Captured.{IsMux, Captured, HasCaptureLine, status_captured};
 ghost use Rattle.ts_engine.specs.Generated.{Workload};
 ghost use Rattle.ts_engine.specs.Headline.{RunView, ending, asks_to_quit};
 ghost use Rattle.ts_engine.specs.Journaled.{IsKeep, Journaled, HasJournalLine, status_journaled};
+ghost use Rattle.ts_engine.specs.HostEnds as ends;
+ghost use Rattle.ts_engine.specs.HostEnds.{IsHost, IsJournalHost, NoHostFault, has_journal};
+ghost use Rattle.ts_engine.specs.Hosted.{EndsInMemory, EndsOver, Hosted, HasHostLine, status_hosted};
 ghost use Rattle.ts_engine.specs.InputTaken.{InputTaken, HasStatusLine};
 ghost use Rattle.ts_engine.specs.Top.{AreUsable, IsPipe, Reports, Headline, status_by, status_cut, NoneRose};
 
 use crate::address::serve_address;
 use crate::capture::answer_capture;
 use crate::generated::answer_workload;
+use crate::host_mode::{HostOptions, answer_host};
 use crate::keep::answer_journaled;
 use crate::piped::pipe;
 use crate::status::report;
 use std::alloc::Global;
 use ts_db::{Db, Limits};
-use ts_io::{Clock, Listener, Log, Sink, Source};
-use ts_words::{Mode, Status};
+use ts_io::{Clock, Hub, Listener, Log, Sink, Source};
+use ts_words::{Mode, Status, Storage};
 
 /// The most bytes that the program reads of its input, of a connection or of a journal: 2^60.
 pub fn usual_budget() -> u64
@@ -34,11 +40,14 @@ pub fn usual_budget() -> u64
 /// - `gen SEED N` runs the workload of this seed with N changes, and writes its summary to `out`.
 /// - `keep FILE` loads the journal FILE through `log`, answers `input` like `pipe`, and appends the record of each
 ///   change to the journal before it writes the reply.
+/// - `host ADDRESS [FILE [sync]]` serves any number of links of `hub` at once, with the journal FILE or in memory alone. It
+///   writes `ready ADDRESS` to `out` as soon as links are accepted, and a line for each link that ends. The records of a
+///   wake-up are in the journal, with `sync` also on disk, before its replies leave.
 /// - `mux` answers the interleaved connections of the capture in `input`, and writes each reply as a frame to `out`.
 ///
 /// Reads at most `budget` bytes of the input, of each connection and of the journal. Any status other than `Ended`
 /// writes its line to `err`.
-pub fn top<S: Source, K: Sink, E: Sink, C: Clock, N: Listener, J: Log>(
+pub fn top<S: Source, K: Sink, E: Sink, C: Clock, N: Listener, J: Log, H: Hub>(
     alloc: Global,
     words: &[String],
     input: &mut S,
@@ -47,6 +56,7 @@ pub fn top<S: Source, K: Sink, E: Sink, C: Clock, N: Listener, J: Log>(
     clock: &mut C,
     net: &mut N,
     log: &mut J,
+    hub: &mut H,
     limits: Limits,
     budget: u64,
 ) -> Status
@@ -149,8 +159,69 @@ pub fn top<S: Source, K: Sink, E: Sink, C: Clock, N: Listener, J: Log>(
     // The status line of a status. Holds even if the bytes of the input and of the journal are unknown.
     ensures journal_line { IsKeep words.now → HasJournalLine (E.has err.old) (E.has err.new) result }
 
-    // Only `keep` reports a failed or broken journal.
-    ensures only_journal { (result ≡ Status.JournalFault) ⊎ (result ≡ Status.JournalBroken) → IsKeep words.now }
+    // host with a journal: the connections' requests are answered in one order, on the database that the journal loads
+    // to. Each reply that was let out has its whole record in the journal, and each prefix of the journal loads to the
+    // database after its complete changes.
+    ensures hosted { (storage : Storage) → asked words.now ≡ Some (Mode.Host storage) → has_journal storage ≡ true
+        → (journal : List ℕ) → J.content log.old ≡ Some journal → Hosted
+        (EndsOver
+        (record {
+          address = ends.host_address words.now;
+          budget = budget;
+          seen = record { limits = limits; readings = C.readings clock.old; readings_left = C.readings clock.new; had = K.has out.old; has = K.has out.new };
+          coming = H.coming hub.old;
+          coming_left = H.coming hub.new;
+          out = H.out hub.old;
+          out_left = H.out hub.new;
+          same_hub = hub.new ≡ hub.old;
+          same_output = out.new ≡ out.old;
+          same_clock = clock.new ≡ clock.old;
+        })
+        journal (J.content log.new))
+        storage (E.has err.old) (E.has err.new) result }
+
+    // host in memory alone: the same, on the empty database.
+    ensures hosted_in_memory { asked words.now ≡ Some (Mode.Host Storage.Memory) → Hosted
+        (EndsInMemory
+        (record {
+          address = ends.host_address words.now;
+          budget = budget;
+          seen = record { limits = limits; readings = C.readings clock.old; readings_left = C.readings clock.new; had = K.has out.old; has = K.has out.new };
+          coming = H.coming hub.old;
+          coming_left = H.coming hub.new;
+          out = H.out hub.old;
+          out_left = H.out hub.new;
+          same_hub = hub.new ≡ hub.old;
+          same_output = out.new ≡ out.old;
+          same_clock = clock.new ≡ clock.old;
+        }))
+        Storage.Memory (E.has err.old) (E.has err.new) result }
+
+    // If no device fails and the steps that come do not use up the budget, the status is that of the journal, or out of
+    // memory.
+    ensures host_complete { (storage : Storage) → asked words.now ≡ Some (Mode.Host storage) → has_journal storage ≡ true
+        → (journal : List ℕ) (steps : List Step) → J.content log.old ≡ Some journal → H.coming hub.old ≡ Some steps
+        → weight steps < budget
+        → NoHostFault
+        (record { hub = H.faults hub.old; lines = K.faults out.old; journal = J.faults log.old })
+        (record { hub = H.faults hub.new; lines = K.faults out.new; journal = J.faults log.new })
+        → (Rose (E.faults err.old) (E.faults err.new) → ⊥)
+        → (result ≡ Status.Memory) ⊎ (result ≡ status_hosted limits budget journal) }
+    ensures host_complete_in_memory { asked words.now ≡ Some (Mode.Host Storage.Memory)
+        → (steps : List Step) → H.coming hub.old ≡ Some steps → weight steps < budget
+        → NoHostFault
+        (record { hub = H.faults hub.old; lines = K.faults out.old; journal = J.faults log.old })
+        (record { hub = H.faults hub.new; lines = K.faults out.new; journal = J.faults log.new })
+        → (Rose (E.faults err.old) (E.faults err.new) → ⊥)
+        → (result ≡ Status.Memory) ⊎ (result ≡ Status.Ended) }
+
+    // The status line of a status. Holds even if the bytes of the journal and the steps are unknown.
+    ensures host_line { (storage : Storage) → asked words.now ≡ Some (Mode.Host storage)
+        → HasHostLine storage (E.has err.old) (E.has err.new) result }
+
+    // Only `keep`, and `host` with a journal, report a failed or broken journal.
+    ensures only_journal { (result ≡ Status.JournalFault) ⊎ (result ≡ Status.JournalBroken)
+        → IsKeep words.now ⊎ IsJournalHost words.now }
 
     // Invalid arguments change nothing but `err`.
     ensures usage { asked words.now ≡ None → Reports Status.Usage 0 result (E.has err.old) (E.has err.new) }
@@ -161,7 +232,9 @@ pub fn top<S: Source, K: Sink, E: Sink, C: Clock, N: Listener, J: Log>(
     ensures read_fault { result ≡ Status.ReadFault → Rose (S.faults input.old) (S.faults input.new) }
     ensures write_fault { result ≡ Status.WriteFault
         → Rose (K.faults out.old) (K.faults out.new) ⊎ Rose (E.faults err.old) (E.faults err.new) }
-    ensures accept_fault { result ≡ Status.AcceptFault → Rose (N.faults net.old) (N.faults net.new) }
+    ensures accept_fault { (IsHost words.now → ⊥) → result ≡ Status.AcceptFault
+        → Rose (N.faults net.old) (N.faults net.new) }
+    ensures hub_fault { IsHost words.now → result ≡ Status.AcceptFault → Rose (H.faults hub.old) (H.faults hub.new) }
     ensures journal_fault { result ≡ Status.JournalFault → Rose (J.faults log.old) (J.faults log.new) }
 
     // With any other status, no fault counter changed. A write fault may hide another fault: it then cut the line that
@@ -172,14 +245,17 @@ pub fn top<S: Source, K: Sink, E: Sink, C: Clock, N: Listener, J: Log>(
         → (K.faults out.new ≡ K.faults out.old) × (E.faults err.new ≡ E.faults err.old) }
     ensures no_accept_fault { result ≢ Status.AcceptFault → result ≢ Status.WriteFault
         → N.faults net.new ≡ N.faults net.old }
+    ensures no_hub_fault { result ≢ Status.AcceptFault → result ≢ Status.WriteFault
+        → H.faults hub.new ≡ H.faults hub.old }
     ensures no_journal_fault { result ≢ Status.JournalFault → result ≢ Status.WriteFault
         → J.faults log.new ≡ J.faults log.old }
 
-    // Only `pipe`, `keep` and `mux` use `input`; only `keep` uses `log`; only `serve` uses `net`, and closes every
-    // connection that it accepted. `gen` reads no clock.
+    // Only `pipe`, `keep` and `mux` use `input`; only `keep`, and `host` with a journal, use `log`; only `host` uses
+    // `hub`; only `serve` uses `net`, and closes every connection that it accepted. `gen` reads no clock.
     ensures input { (asked words.now ≡ Some Mode.Pipe → ⊥) → (IsKeep words.now → ⊥)
         → (asked words.now ≡ Some Mode.Mux → ⊥) → input.new ≡ input.old }
-    ensures log { (IsKeep words.now → ⊥) → log.new ≡ log.old }
+    ensures log { (IsKeep words.now → ⊥) → (IsJournalHost words.now → ⊥) → log.new ≡ log.old }
+    ensures hub { (IsHost words.now → ⊥) → hub.new ≡ hub.old }
     ensures net { (IsServe words.now → ⊥) → net.new ≡ net.old }
     ensures clock { IsGen words.now → clock.new ≡ clock.old }
     ensures all_closed { N.has_open_link net.new ≡ false }
@@ -197,7 +273,35 @@ pub fn top<S: Source, K: Sink, E: Sink, C: Clock, N: Listener, J: Log>(
         Some(Mode::Keep) => answer_journaled(
             alloc, &words[1], input, out, err, clock, log, limits, budget,
         ),
+        Some(Mode::Host(storage)) => {
+            let options = HostOptions {
+                address: host_address(words),
+                name: journal_name(words),
+                storage,
+                limits,
+                budget,
+            };
+            answer_host(alloc, &options, hub, out, err, clock, log)
+        }
         Some(Mode::Mux) => answer_capture(alloc, input, out, err, clock, limits, budget),
         None => report(err, Status::Usage, 0),
+    }
+}
+
+// The address in the arguments of `host`.
+fn host_address(words: &[String]) -> &str
+    ensures { result.now ≡ ends.host_address words.now }
+{
+    match words {
+        [_, address, ..] => address,
+        _ => "",
+    }
+}
+
+// The name of the journal in the arguments of `host`; empty if there is none.
+fn journal_name(words: &[String]) -> &str {
+    match words {
+        [_, _, name, ..] => name,
+        _ => "",
     }
 }

@@ -122,7 +122,7 @@ fn write_link<K: Sink>(out: &mut K, number: u32, outcome: Outcome) -> Result<(),
 {
     let mut room = [0; ROOM];
     let line = link_line(
-        number,
+        number.into(),
         outcome.executed,
         link_end_of(outcome.end),
         &mut room,

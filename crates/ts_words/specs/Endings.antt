@@ -28,7 +28,7 @@ ended text = text ++ 10 ∷ []
 -- the line for a status, with the byte offset of a stream's fault; success has none
 abbrev pub line_of_status : Status → (byte_offset : ℕ) → List ℕ
 line_of_status status.Ended byte_offset = []
-line_of_status status.Usage byte_offset = ended (codes "usage: tsd pipe | tsd serve <address> <connections> | tsd gen <seed> <n> | tsd keep <file> | tsd mux")
+line_of_status status.Usage byte_offset = ended (codes "usage: tsd pipe | tsd serve <address> <connections> | tsd gen <seed> <n> | tsd keep <file> | tsd host <address> [<file> [sync]] | tsd mux")
 line_of_status status.Truncated byte_offset = ended (codes "tsd: input ends inside a request that begins at byte " ++ decimal byte_offset)
 line_of_status status.Protocol byte_offset = ended (codes "tsd: protocol fault at byte " ++ decimal byte_offset)
 line_of_status status.ReadFault byte_offset = ended (codes "tsd: read fault")
@@ -51,5 +51,6 @@ line_of_status_in (Some mode.Mux) ending byte_offset = capture_line_of_status en
 line_of_status_in (Some mode.Pipe) ending byte_offset = line_of_status ending byte_offset
 line_of_status_in (Some (mode.Serve connections)) ending byte_offset = line_of_status ending byte_offset
 line_of_status_in (Some (mode.Gen seed n)) ending byte_offset = line_of_status ending byte_offset
+line_of_status_in (Some (mode.Host storage)) ending byte_offset = line_of_status ending byte_offset
 line_of_status_in (Some mode.Keep) ending byte_offset = line_of_status ending byte_offset
 line_of_status_in None ending byte_offset = line_of_status ending byte_offset

@@ -1,4 +1,4 @@
--- The line of a served connection, and the summary of a generated workload.
+-- The lines about served connections, and the summary of a generated workload.
 use Rattle.std.specs.Prelude.{ℕ, List, ◌++◌, codes, slice_index}
 use Rattle.std.specs.Fmt.{decimal}
 use Rattle.ts_words.specs.declared.lines.LinkEnd.{LinkEnd}
@@ -14,10 +14,16 @@ link_end_word end.ReadFault = codes "read-fault"
 link_end_word end.WriteFault = codes "write-fault"
 link_end_word end.Memory = codes "memory"
 link_end_word end.Budget = codes "budget"
+link_end_word end.Cut = codes "cut"
+link_end_word end.Broken = codes "broken"
 
 -- the line of a connection: its number, how many of its requests were executed, and how it ended
 abbrev pub link_line_of : (link executed : ℕ) → LinkEnd → List ℕ
 link_line_of link executed how = ended (codes "link " ++ decimal link ++ codes " executed " ++ decimal executed ++ codes " " ++ link_end_word how)
+
+-- the line that tells that connections are accepted at this address
+abbrev pub ready_line_of : (address : List ℕ) → List ℕ
+ready_line_of address = ended (codes "ready " ++ address)
 
 -- a line of a name and a number
 abbrev pub summary_line : List ℕ → ℕ → List ℕ

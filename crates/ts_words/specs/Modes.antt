@@ -4,7 +4,8 @@ use Rattle.std.specs.Option.{option_map}
 use Rattle.std.specs.Cmp.Lexicographic.{pointwise}
 use Rattle.std.specs.List.{list_all}
 use Rattle.ts_words.specs.declared.mode.Mode.{Mode}
-use Rattle.ts_words.specs.declared.mode.Mode.TheVariants.{Pipe, Serve, Gen, Keep, Mux}
+use Rattle.ts_words.specs.declared.mode.Mode.TheVariants.{Pipe, Serve, Gen, Keep, Host, Mux}
+use Rattle.ts_words.specs.declared.mode.Storage.TheVariants.{Memory, Journal, SyncedJournal}
 
 -- whether two words have the same bytes
 abbrev pub same : List ℕ → List ℕ → Bool
@@ -49,14 +50,26 @@ gen_of seed n = gen_with (number 0 (2 ^ 64 - 1) seed) (number 0 1000000 n)
 abbrev pub one_word : List ℕ → Option Mode
 one_word word = if same word (codes "pipe") then Some Pipe else (if same word (codes "mux") then Some Mux else None)
 
--- two arguments: `keep` and the name of the journal's file
+-- two arguments: `keep` and the name of the journal's file, or `host` and an address
 abbrev pub two_words : (word name : List ℕ) → Option Mode
-two_words word name = if same word (codes "keep") && is_operand name then Some Keep else None
+two_words word name =
+    if same word (codes "keep") && is_operand name then Some Keep
+    else (if same word (codes "host") && is_operand name then Some (Host Memory) else None)
 
--- three arguments: `serve` or `gen` and its two
+-- the arguments of `host` with a journal: an address and the name of the journal's file
+abbrev pub host_of : (address name : List ℕ) → Option Mode
+host_of address name = if is_operand address && is_operand name then Some (Host Journal) else None
+
+-- three arguments: `serve`, `gen` or `host` and its two
 abbrev pub three_words : (word first second : List ℕ) → Option Mode
 three_words word first second =
-    if same word (codes "serve") then serve_of first second else (if same word (codes "gen") then gen_of first second else None)
+    if same word (codes "serve") then serve_of first second
+    else (if same word (codes "gen") then gen_of first second else (if same word (codes "host") then host_of first second else None))
+
+-- four arguments: `host`, an address, the name of the journal's file, and `sync`
+abbrev pub four_words : (word address name last : List ℕ) → Option Mode
+four_words word address name last =
+    if same word (codes "host") && is_operand address && is_operand name && same last (codes "sync") then Some (Host SyncedJournal) else None
 
 -- the mode that these arguments select, if any
 abbrev pub mode_of : List (List ℕ) → Option Mode
@@ -64,12 +77,14 @@ mode_of [] = None
 mode_of (word ∷ []) = one_word word
 mode_of (word ∷ name ∷ []) = two_words word name
 mode_of (word ∷ first ∷ second ∷ []) = three_words word first second
-mode_of (word ∷ first ∷ second ∷ third ∷ words) = None
+mode_of (word ∷ first ∷ second ∷ third ∷ []) = four_words word first second third
+mode_of (word ∷ first ∷ second ∷ third ∷ fourth ∷ words) = None
 
 -- the numbers of a mode are within their bounds
 abbrev pub IsWithin : Mode → Type 0
 IsWithin Pipe = Unit {0}
 IsWithin Keep = Unit {0}
 IsWithin Mux = Unit {0}
+IsWithin (Host storage) = Unit {0}
 IsWithin (Serve connections) = 1 ≤ connections
 IsWithin (Gen seed n) = n ≤ 1000000

@@ -7,5 +7,5 @@ mod mode;
 mod status;
 
 pub use lines::{LinkEnd, line, link_line, summary};
-pub use mode::Mode;
+pub use mode::{Mode, Storage};
 pub use status::Status;

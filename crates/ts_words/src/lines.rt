@@ -22,7 +22,7 @@ pub fn line(
         Status::Ended => 0,
         Status::Usage => write_text_line(
             line_buffer,
-            b"usage: tsd pipe | tsd serve <address> <connections> | tsd gen <seed> <n> | tsd keep <file> | tsd mux",
+            b"usage: tsd pipe | tsd serve <address> <connections> | tsd gen <seed> <n> | tsd keep <file> | tsd host <address> [<file> [sync]] | tsd mux",
         ),
         Status::Truncated => write_truncated_line(mode, line_buffer, byte_offset),
         Status::Protocol => write_offset_line(
@@ -61,7 +61,7 @@ fn write_truncated_line(mode: Option<Mode>, line_buffer: &mut [u8; 160], byte_of
             b"tsd: capture ends inside a frame that begins at byte ",
             byte_offset,
         ),
-        Some(Mode::Pipe | Mode::Serve(_) | Mode::Gen(_, _) | Mode::Keep) | None =>
+        Some(Mode::Pipe | Mode::Serve(_) | Mode::Gen(_, _) | Mode::Keep | Mode::Host(_)) | None =>
             write_offset_line(
                 line_buffer,
                 b"tsd: input ends inside a request that begins at byte ",
@@ -108,6 +108,10 @@ pub enum LinkEnd {
     Memory,
     /// The budget of input bytes was used up.
     Budget,
+    /// Its client did not read its replies: more than 64 MiB of them waited, or there was no memory for the next one.
+    Cut,
+    /// A call on it failed, or its client reset it.
+    Broken,
 }
 
 impl LinkEnd {
@@ -124,17 +128,19 @@ impl LinkEnd {
             LinkEnd::WriteFault => "write-fault",
             LinkEnd::Memory => "memory",
             LinkEnd::Budget => "budget",
+            LinkEnd::Cut => "cut",
+            LinkEnd::Broken => "broken",
         }
     }
 }
 
 /// Writes the line of a served connection into `line_buffer`: its number, counted from 1, how many of its requests were
 /// executed, and how it ended.
-pub fn link_line(link: u32, executed: u64, end: LinkEnd, line_buffer: &mut [u8; 80]) -> &[u8]
+pub fn link_line(link: u64, executed: u64, end: LinkEnd, line_buffer: &mut [u8; 80]) -> &[u8]
     ensures { result.now ≡ link_line_of link executed end }
 {
     let at = write_text_at(line_buffer, 0, b"link ");
-    let at = write_number_at(line_buffer, at, link.into());
+    let at = write_number_at(line_buffer, at, link);
     let at = write_text_at(line_buffer, at, b" executed ");
     let at = write_number_at(line_buffer, at, executed);
     let at = write_text_at(line_buffer, at, b" ");

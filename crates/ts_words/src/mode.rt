@@ -1,11 +1,22 @@
 // Parses the command line.
 ghost use Rattle.std.specs.Prelude.{◌≡◌, ◌≤◌, if◌then◌else◌, map, IfSome, None, Some};
 ghost use Rattle.std.specs.String.{string_bytes};
-ghost use Rattle.ts_words.specs.Modes.{mode_of, serve_of, gen_of, IsWithin, number, is_digits, digits_number};
+ghost use Rattle.ts_words.specs.Modes.{mode_of, serve_of, gen_of, host_of, IsWithin, number, is_digits, digits_number};
 ghost use Rattle.ts_words.specs.Modes as words;
 
 /// The most sample requests in a generated workload.
 const MOST_GENERATED: u64 = 1_000_000;
+
+/// Where the mode `host` keeps its data.
+#[derive(Clone, Copy, Debug, PartialEq, Eq)]
+pub enum Storage {
+    /// In memory alone.
+    Memory,
+    /// In a journal, which outlives the process. The third argument is the name of its file.
+    Journal,
+    /// The same, and synced before any reply leaves, so that it outlives a crash of the system.
+    SyncedJournal,
+}
 
 /// The mode that the command line selects.
 #[derive(Clone, Copy, Debug, PartialEq, Eq)]
@@ -19,13 +30,15 @@ pub enum Mode {
     /// Answers the requests on standard input over the data in a journal, and appends each change to it. The second
     /// argument is the name of the journal's file.
     Keep,
+    /// Serves any number of connections at once. The second argument is the address.
+    Host(Storage),
     /// Answers a capture of interleaved connections on standard input.
     Mux,
 }
 
 impl Mode {
-    /// Parses the arguments after the program's name: `pipe`, `mux`, `keep NAME`, `serve ADDRESS CONNECTIONS` or `gen
-    /// SEED N`. Returns `None` for anything else.
+    /// Parses the arguments after the program's name: `pipe`, `mux`, `keep NAME`, `serve ADDRESS CONNECTIONS`, `gen
+    /// SEED N`, or `host ADDRESS`, with a journal `host ADDRESS NAME` or `host ADDRESS NAME sync`. Returns `None` for anything else.
     pub fn read(words: &[String]) -> Option<Mode>
         ensures mode { result ≡ mode_of (map string_bytes words.now) }
         ensures within { IfSome result IsWithin }
@@ -34,6 +47,7 @@ impl Mode {
             [word] => one_word(word),
             [word, name] => two_words(word, name),
             [word, first, second] => three_words(word, first, second),
+            [word, address, name, last] => four_words(word, address, name, last),
             _ => None,
         }
     }
@@ -56,8 +70,13 @@ fn two_words(word: &str, name: &str) -> Option<Mode>
     ensures mode { result ≡ words.two_words word.now name.now }
     ensures within { IfSome result IsWithin }
 {
-    if word == "keep" && is_operand(name.as_bytes()) {
+    if !is_operand(name.as_bytes()) {
+        return None;
+    }
+    if word == "keep" {
         Some(Mode::Keep)
+    } else if word == "host" {
+        Some(Mode::Host(Storage::Memory))
     } else {
         None
     }
@@ -71,6 +90,34 @@ fn three_words(word: &str, first: &str, second: &str) -> Option<Mode>
         serve(first, second)
     } else if word == "gen" {
         generate(first, second)
+    } else if word == "host" {
+        host(first, second)
+    } else {
+        None
+    }
+}
+
+fn four_words(word: &str, address: &str, name: &str, last: &str) -> Option<Mode>
+    ensures mode { result ≡ words.four_words word.now address.now name.now last.now }
+    ensures within { IfSome result IsWithin }
+{
+    if word == "host"
+        && is_operand(address.as_bytes())
+        && is_operand(name.as_bytes())
+        && last == "sync"
+    {
+        Some(Mode::Host(Storage::SyncedJournal))
+    } else {
+        None
+    }
+}
+
+fn host(address: &str, name: &str) -> Option<Mode>
+    ensures mode { result ≡ host_of address.now name.now }
+    ensures within { IfSome result IsWithin }
+{
+    if is_operand(address.as_bytes()) && is_operand(name.as_bytes()) {
+        Some(Mode::Host(Storage::Journal))
     } else {
         None
     }

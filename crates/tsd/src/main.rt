@@ -2,13 +2,17 @@
 //! `ts_engine`, and exits with the status that it returns.
 #![tactic(auto)]
 
-ghost use Rattle.std.specs.Prelude.{◌≡◌, ◌≤◌, ◌^◌, ℕ, false, List, None, Some, IfOk};
+ghost use Rattle.std.specs.Prelude.{◌≡◌, ◌≤◌, ◌^◌, ℕ, true, false, List, None, Some, IfOk};
 ghost use Rattle.ts_spec.specs.Limits.{usual};
-ghost use Rattle.ts_words.specs.declared.mode.Mode.TheVariants.{Serve, Gen};
+ghost use Rattle.ts_words.specs.declared.mode.Mode.TheVariants.{Serve, Gen, Host};
+ghost use Rattle.ts_words.specs.declared.mode.Storage.{Storage};
+ghost use Rattle.ts_words.specs.declared.mode.Storage.TheVariants.{Memory};
 ghost use Rattle.ts_engine.specs.Asked.{asked, Connections};
 ghost use Rattle.ts_engine.specs.Captured.{IsMux, Captured};
 ghost use Rattle.ts_engine.specs.Generated.{Workload};
 ghost use Rattle.ts_engine.specs.Headline.{RunView};
+ghost use Rattle.ts_engine.specs.HostEnds.{has_journal, host_address};
+ghost use Rattle.ts_engine.specs.Hosted.{EndsInMemory, EndsOver, Hosted};
 ghost use Rattle.ts_engine.specs.Journaled.{IsKeep, Journaled};
 ghost use Rattle.ts_engine.specs.Top.{IsPipe, Headline, Reports};
 
@@ -17,7 +21,10 @@ use std::io::ErrorKind;
 use std::process::ExitCode;
 use std::{env, io};
 use ts_engine::{Limits, Status, top, usual_budget};
-use ts_io::{Clock, FileLog, Listener, Log, Sink, Source, StdSink, StdSource, SystemClock, TcpNet};
+use ts_io::{
+    Clock, FileLog, Hub, Listener, Log, Sink, Source, StdSink, StdSource, SystemClock, TcpNet,
+};
+use ts_net::TcpHub;
 
 /// The exit status if memory runs out for the arguments.
 const OUT_OF_MEMORY: u8 = 6;
@@ -48,14 +55,15 @@ fn run(rt: &HostRuntime) -> io::Result<u8>
     let mut clock = SystemClock::new(rt);
     let mut net = TcpNet::new(rt);
     let mut log = FileLog::new(rt);
+    let mut hub = TcpHub::new(rt, alloc);
     let status = answer(
-        alloc, &words, &mut input, &mut out, &mut err, &mut clock, &mut net, &mut log,
+        alloc, &words, &mut input, &mut out, &mut err, &mut clock, &mut net, &mut log, &mut hub,
     );
     Ok(status.code())
 }
 
 /// Runs `top` with the limits and the budget of the program. `top` says what each mode does.
-fn answer<S: Source, K: Sink, E: Sink, C: Clock, N: Listener, J: Log>(
+fn answer<S: Source, K: Sink, E: Sink, C: Clock, N: Listener, J: Log, H: Hub>(
     alloc: Global,
     words: &[String],
     input: &mut S,
@@ -64,6 +72,7 @@ fn answer<S: Source, K: Sink, E: Sink, C: Clock, N: Listener, J: Log>(
     clock: &mut C,
     net: &mut N,
     log: &mut J,
+    hub: &mut H,
 ) -> Status
     requires { N.has_open_link net.old ≡ false }
 
@@ -94,6 +103,43 @@ fn answer<S: Source, K: Sink, E: Sink, C: Clock, N: Listener, J: Log>(
         ((input.new ≡ input.old) × (out.new ≡ out.old) × (clock.new ≡ clock.old))
         (2 ^ 60) bytes (S.left input.new) (E.has err.old) (E.has err.new) result }
 
+    // host: many connections are answered in one order, on the database that the journal loads to, and each reply leaves
+    // after its record is in the journal.
+    ensures hosted { (storage : Storage) → asked words.now ≡ Some (Host storage) → has_journal storage ≡ true
+        → (journal : List ℕ) → J.content log.old ≡ Some journal → Hosted
+        (EndsOver
+        (record {
+          address = host_address words.now;
+          budget = 2 ^ 60;
+          seen = record { limits = usual; readings = C.readings clock.old; readings_left = C.readings clock.new; had = K.has out.old; has = K.has out.new };
+          coming = H.coming hub.old;
+          coming_left = H.coming hub.new;
+          out = H.out hub.old;
+          out_left = H.out hub.new;
+          same_hub = hub.new ≡ hub.old;
+          same_output = out.new ≡ out.old;
+          same_clock = clock.new ≡ clock.old;
+        })
+        journal (J.content log.new))
+        storage (E.has err.old) (E.has err.new) result }
+
+    // host in memory alone: the same, on the empty database.
+    ensures hosted_in_memory { asked words.now ≡ Some (Host Memory) → Hosted
+        (EndsInMemory
+        (record {
+          address = host_address words.now;
+          budget = 2 ^ 60;
+          seen = record { limits = usual; readings = C.readings clock.old; readings_left = C.readings clock.new; had = K.has out.old; has = K.has out.new };
+          coming = H.coming hub.old;
+          coming_left = H.coming hub.new;
+          out = H.out hub.old;
+          out_left = H.out hub.new;
+          same_hub = hub.new ≡ hub.old;
+          same_output = out.new ≡ out.old;
+          same_clock = clock.new ≡ clock.old;
+        }))
+        Memory (E.has err.old) (E.has err.new) result }
+
     // mux: the output has a frame with the reply to each request of the interleaved connections.
     ensures captured { IsMux words.now → (bytes : List ℕ) → S.left input.old ≡ Some bytes → Captured
         (record { limits = usual; readings = C.readings clock.old; readings_left = C.readings clock.new; had = K.has out.old; has = K.has out.new })
@@ -111,6 +157,7 @@ fn answer<S: Source, K: Sink, E: Sink, C: Clock, N: Listener, J: Log>(
         clock,
         net,
         log,
+        hub,
         Limits::usual(),
         usual_budget(),
     )

@@ -1,15 +1,20 @@
-use Rattle.std.proofs.Common.{◌∙◌, ap, subst, ℕ, map, arith}
+use Rattle.std.proofs.Common.{◌≡◌, ◌∙◌, ap, subst, ℕ, true, map, arith}
 use Rattle.std.proofs.lemmas.List.{length-map}
 use Rattle.std.specs.String.{string_bytes}
 use Rattle.ts_spec.specs.State.{empty}
+use Rattle.std.specs.Prelude.{List}
+use Rattle.ts_words.specs.declared.mode.Storage.{Storage}
+use Rattle.ts_words.specs.declared.mode.Storage.TheVariants as storage
 use Rattle.ts_words.specs.declared.status.Status.{Status}
 use Rattle.ts_engine.specs.declared.piped.End.TheVariants as end
+use Rattle.ts_engine.specs.HostEnds.{has_journal, host_address}
+use Rattle.ts_engine.specs.Hosted.{EndsInMemory, EndsOver, Hosted}
 use Rattle.ts_engine.specs.Status.{status_of, place_of}
 use Rattle.ts_engine.specs.Top.{Reports}
 use Rattle.ts_engine.proofs.Links.{same_links, all_served_as}
 use Rattle.ts_engine.proofs.Spending.{by_budget}
 use Rattle.ts_engine.proofs.Taking.{piped_taken, piped_writes}
-use Rattle.ts_engine.proofs.Tops.{keep-words, by_grammar, answered_as, as_meant, not_meant, answered_or_memory}
+use Rattle.ts_engine.proofs.Tops.{keep-words, same-storage, by_grammar, answered_as, as_meant, not_meant, answered_or_memory}
 use Rattle.ts_engine.proofs.running.top.Goals as goal
 
 pub returns-in-Some-Pipe-clause-status_line : goal.returns-in-Some-Pipe-clause-status_line
@@ -69,3 +74,18 @@ returns-in-Some-Serve-clause-serve_complete g c = λ links is no_accept no_write
 pub bounds-words-1-in-Some-Keep : goal.bounds-words-1-in-Some-Keep
 bounds-words-1-in-Some-Keep g c =
     omega (arith, keep-words (map string_bytes c.args.words.now) (rw c.in-Some-Keep.field-0-is at c.in-Some-Keep.ensures.mode), length-map c.args.words.now string_bytes)
+
+-- the address is that of the arguments, and the storage that of the mode
+pub returns-in-Some-Host-clause-hosted : goal.returns-in-Some-Host-clause-hosted
+returns-in-Some-Host-clause-hosted g c = λ kept_in is has journal told.
+    let same = same-storage (map string_bytes c.args.words.now) c.in-Some-Host.storage kept_in (rw c.in-Some-Host.field-0-is at c.in-Some-Host.ensures.mode) is in
+    subst (λ (s : Storage). has_journal s ≡ true → Hosted (EndsOver (record { address = host_address c.args.words.now; budget = c.args.budget; seen = record { limits = c.args.limits; readings = g.C.Clock.readings c.args.clock.now; readings_left = g.C.Clock.readings c.answer_host.new.clock; had = g.K.Sink.has c.args.out.now; has = g.K.Sink.has c.answer_host.new.out }; coming = g.H.Hub.coming c.args.hub.now; coming_left = g.H.Hub.coming c.answer_host.new.hub; out = g.H.Hub.out c.args.hub.now; out_left = g.H.Hub.out c.answer_host.new.hub; same_hub = c.answer_host.new.hub ≡ c.args.hub.now; same_output = c.answer_host.new.out ≡ c.args.out.now; same_clock = c.answer_host.new.clock ≡ c.args.clock.now }) journal (g.J.Log.content c.answer_host.new.log)) s (g.E.Sink.has c.args.err.now) (g.E.Sink.has c.answer_host.new.err) c.answer_host.result) same
+    (λ kept. subst (λ (l : List ℕ). Hosted (EndsOver (record { address = l; budget = c.args.budget; seen = record { limits = c.args.limits; readings = g.C.Clock.readings c.args.clock.now; readings_left = g.C.Clock.readings c.answer_host.new.clock; had = g.K.Sink.has c.args.out.now; has = g.K.Sink.has c.answer_host.new.out }; coming = g.H.Hub.coming c.args.hub.now; coming_left = g.H.Hub.coming c.answer_host.new.hub; out = g.H.Hub.out c.args.hub.now; out_left = g.H.Hub.out c.answer_host.new.hub; same_hub = c.answer_host.new.hub ≡ c.args.hub.now; same_output = c.answer_host.new.out ≡ c.args.out.now; same_clock = c.answer_host.new.clock ≡ c.args.clock.now }) journal (g.J.Log.content c.answer_host.new.log)) c.in-Some-Host.storage (g.E.Sink.has c.args.err.now) (g.E.Sink.has c.answer_host.new.err) c.answer_host.result)
+    c.host_address.ensures (c.answer_host.ensures.hosted kept journal told)) has
+
+pub returns-in-Some-Host-clause-hosted_in_memory : goal.returns-in-Some-Host-clause-hosted_in_memory
+returns-in-Some-Host-clause-hosted_in_memory g c = λ is.
+    let same = same-storage (map string_bytes c.args.words.now) c.in-Some-Host.storage storage.Memory (rw c.in-Some-Host.field-0-is at c.in-Some-Host.ensures.mode) is in
+    subst (λ (s : Storage). Hosted (EndsInMemory (record { address = host_address c.args.words.now; budget = c.args.budget; seen = record { limits = c.args.limits; readings = g.C.Clock.readings c.args.clock.now; readings_left = g.C.Clock.readings c.answer_host.new.clock; had = g.K.Sink.has c.args.out.now; has = g.K.Sink.has c.answer_host.new.out }; coming = g.H.Hub.coming c.args.hub.now; coming_left = g.H.Hub.coming c.answer_host.new.hub; out = g.H.Hub.out c.args.hub.now; out_left = g.H.Hub.out c.answer_host.new.hub; same_hub = c.answer_host.new.hub ≡ c.args.hub.now; same_output = c.answer_host.new.out ≡ c.args.out.now; same_clock = c.answer_host.new.clock ≡ c.args.clock.now })) s (g.E.Sink.has c.args.err.now) (g.E.Sink.has c.answer_host.new.err) c.answer_host.result) same
+    (subst (λ (l : List ℕ). Hosted (EndsInMemory (record { address = l; budget = c.args.budget; seen = record { limits = c.args.limits; readings = g.C.Clock.readings c.args.clock.now; readings_left = g.C.Clock.readings c.answer_host.new.clock; had = g.K.Sink.has c.args.out.now; has = g.K.Sink.has c.answer_host.new.out }; coming = g.H.Hub.coming c.args.hub.now; coming_left = g.H.Hub.coming c.answer_host.new.hub; out = g.H.Hub.out c.args.hub.now; out_left = g.H.Hub.out c.answer_host.new.hub; same_hub = c.answer_host.new.hub ≡ c.args.hub.now; same_output = c.answer_host.new.out ≡ c.args.out.now; same_clock = c.answer_host.new.clock ≡ c.args.clock.now })) c.in-Some-Host.storage (g.E.Sink.has c.args.err.now) (g.E.Sink.has c.answer_host.new.err) c.answer_host.result)
+    c.host_address.ensures (c.answer_host.ensures.hosted_in_memory same))

@@ -10,7 +10,7 @@ returns-clause-appended g c =
     let written : List ℕ = c.handle_recorded-taken.new.room.bytes in
     appended-whole c.args.words.now.items written (record_bytes c.handle_recorded-taken.result.entry written) (g.C.Clock.readings c.args.clock.now) (g.C.Clock.readings c.handle_recorded-taken.new.clock)
     (g.J.Log.content c.args.self.now.log.now) (g.J.Log.content c.append_record.new.log) c.args.self.now.failed c.args.db.now c.handle_recorded-taken.new.db
-    (rw c.replace.ensures.value at c.handle_recorded-taken.ensures.recorded)
+    c.handle_recorded-taken.ensures.recorded
     (subst (λ (l : List ℕ). g.J.Log.content c.append_record.new.log ≡ append_known (g.J.Log.content c.args.self.now.log.now) (record_bytes c.handle_recorded-taken.result.entry l)) c.bytes.ensures c.in-Ok.ensures.all)
 
 pub returns-in-Err-clause-appended : goal.returns-in-Err-clause-appended
@@ -18,5 +18,5 @@ returns-in-Err-clause-appended g c =
     let written : List ℕ = c.handle_recorded-taken.new.room.bytes in
     appended-torn c.args.words.now.items written (record_bytes c.handle_recorded-taken.result.entry written) (g.C.Clock.readings c.args.clock.now) (g.C.Clock.readings c.handle_recorded-taken.new.clock)
     (g.J.Log.content c.args.self.now.log.now) (g.J.Log.content c.append_record.new.log) c.args.self.now.failed c.args.db.now c.handle_recorded-taken.new.db
-    (rw c.replace.ensures.value at c.handle_recorded-taken.ensures.recorded)
+    c.handle_recorded-taken.ensures.recorded
     (subst (λ (l : List ℕ). AppendsPrefix (g.J.Log.content c.args.self.now.log.now) (g.J.Log.content c.append_record.new.log) (record_bytes c.handle_recorded-taken.result.entry l)) c.bytes.ensures c.in-Err.ensures.front)

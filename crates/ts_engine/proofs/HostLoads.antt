@@ -1,0 +1,177 @@
+-- A host over the journal that was loaded, and in memory alone.
+use Rattle.std.specs.Prelude.{All, Option, None, Some, Ok, Err}
+use Rattle.std.proofs.Common.{◌≡◌, ◌⊎◌, inl, inr, ◌≤◌, ◌<◌, ◌+◌, ℕ, Bool, true, false, if◌then◌else◌, List, [], ◌∷◌, ◌++◌, length, take, refl, sym, ◌∙◌, ap, subst, arith}
+use Rattle.std.proofs.lemmas.Bool.{le-leb, lt-leb}
+use Rattle.std.proofs.lemmas.List.Elements.{All-nil}
+use Rattle.std.specs.Option.{option_map}
+use Rattle.ts_io.specs.Causes.{Rose}
+use Rattle.ts_io.specs.declared.hub.Step.{Step}
+use Rattle.ts_io.specs.declared.hub.Step.TheVariants.{Comes, Pauses}
+use Rattle.ts_io.proofs.Adding.{adds_none}
+use Rattle.ts_spec.specs.State.{State, empty}
+use Rattle.ts_spec.specs.StreamPrefixes.{IsWithin}
+use Rattle.ts_spec.specs.declared.limits.Limits.{Limits}
+use Rattle.ts_db.specs.DbState.{DbState}
+use Rattle.ts_journal.specs.Limits.{IsBounded}
+use Rattle.ts_journal.specs.Loading.{Load, Loads, BreaksAt, load}
+use Rattle.ts_words.specs.declared.status.Status.{Status}
+use Rattle.ts_words.specs.declared.status.Status.TheVariants as status
+use Rattle.ts_execution.specs.Journaling.{Snapshot, IsJournaled, kept}
+use Rattle.ts_host.specs.Causes.{Faults}
+use Rattle.ts_host.specs.Http.{closes}
+use Rattle.ts_host.specs.Steps.{Takes, frames_of, weight, weight_of_step}
+use Rattle.ts_host.specs.declared.host.HostFault.TheVariants as fault
+use Rattle.ts_host.specs.declared.serving.HubEnd.{HubEnd}
+use Rattle.ts_host.specs.declared.serving.HubEnd.TheVariants as served
+use Rattle.ts_engine.specs.declared.host_end.HostEnd.{HostEnd}
+use Rattle.ts_engine.specs.declared.host_end.HostEnd.TheVariants as end
+use Rattle.ts_engine.specs.declared.journaling.JournalEnd.{JournalEnd}
+use Rattle.ts_engine.specs.declared.journaling.JournalEnd.TheVariants as journal
+use Rattle.ts_engine.specs.Answered.{IsOutOfMemoryOr}
+use Rattle.ts_engine.specs.HostEnds.{HasHostCauses, NoHostFault, status_of}
+use Rattle.ts_engine.specs.HostPrefixes.{HostRun, HostPrefixes}
+use Rattle.ts_engine.specs.Hosted.{HostView, AllAnswered, SomeAnswered, Answered, Served, EndsFrom, run_of_all, run_of_some, no_run, run_answered, run_of, world_loaded, EndsLoaded, EndsOver, status_hosted}
+use Rattle.ts_engine.specs.Journaled.{IsOpened, is_load_fault, status_loaded}
+use Rattle.ts_engine.specs.Journaled as journaled
+use Rattle.ts_engine.proofs.HostPrefixItems.{order-within, answered-within, left-within}
+use Rattle.ts_engine.proofs.HostPrefixLemmas.{run-prefixes}
+use Rattle.ts_engine.proofs.HostPrefixRuns.{answers-run}
+
+-- ---- each prefix of the journal
+
+module _ (run : HostView) (bounded : IsBounded run.seen.limits.wire) (bytes : List ℕ) (left : Option (List ℕ)) (m : State) (place : ℕ) (loads : load run.seen.limits bytes ≡ Loads m place) where
+  abbrev world : Snapshot
+  world = world_loaded run bytes left m place
+
+  abbrev Prefixes : HostRun → Type 0
+  Prefixes requests = HostPrefixes run.seen.limits bytes place world requests left
+
+  all-prefixes : {steps : List Step} → (all : AllAnswered run world left steps) → Prefixes (run_of_all run world left all)
+  all-prefixes {steps} all =
+      run-prefixes run.seen.limits bounded bytes place world refl refl loads (run_of_all run world left all) left
+      (answers-run all.answers) (answered-within run.seen.limits.wire all.answers (order-within run.seen.limits.wire closes (frames_of steps)))
+      (refl, refl) (All-nil (IsWithin run.seen.limits.wire)) ([], adds_none left) ([], adds_none left)
+
+  some-prefixes : {steps : List Step} → (some : SomeAnswered run world left steps) → Prefixes (run_of_some run world left some)
+  some-prefixes {steps} some =
+      let within = order-within run.seen.limits.wire closes (frames_of steps) in
+      run-prefixes run.seen.limits bounded bytes place world refl refl loads (run_of_some run world left some) left
+      (answers-run some.first) (answered-within run.seen.limits.wire some.first within)
+      (answers-run some.second) (answered-within run.seen.limits.wire some.second (left-within run.seen.limits.wire some.first within))
+      some.settled some.within
+
+  no-prefixes : left ≡ world.content → Prefixes (no_run run world left)
+  no-prefixes same =
+      run-prefixes run.seen.limits bounded bytes place world refl refl loads (no_run run world left) left
+      (refl, refl) (All-nil (IsWithin run.seen.limits.wire)) (refl, refl) (All-nil (IsWithin run.seen.limits.wire))
+      ([], same ∙ adds_none world.content) ([], sym same ∙ adds_none left)
+
+  answered-prefixes : (e : HubEnd) (steps : List Step) (answered : Answered run world left e steps) → Prefixes (run_answered run world left e steps answered)
+  answered-prefixes served.Ended steps answered = all-prefixes answered.0
+  answered-prefixes served.Budget steps answered = all-prefixes answered.0
+  answered-prefixes (served.Stopped fault) steps answered = some-prefixes answered
+
+  its-prefixes : (e : HostEnd) (ends : EndsFrom run world left e) → Prefixes (run_of run world left e ends)
+  its-prefixes (end.Served e) ends = answered-prefixes e ends.steps ends.answered
+  its-prefixes end.NotReady ends = no-prefixes ends.0.journal
+  its-prefixes end.NotOpened ends = no-prefixes ends.0.journal
+  its-prefixes end.NoMemory ends = no-prefixes ends.0
+  its-prefixes (end.NotLoaded e) ends = absurd ends
+
+  ends-loaded : length bytes < run.budget → (e : HostEnd) → EndsFrom run world left e → EndsLoaded run bytes left e
+  ends-loaded below e ends = record { loaded = m; place = place; loads = loads; read_whole = below; ends = ends; prefixes = its-prefixes e ends }
+
+  pub ends-over : length bytes < run.budget → (e : HostEnd) → EndsFrom run world left e → EndsOver run bytes left e
+  ends-over below (end.Served e) ends = ends-loaded below (end.Served e) ends
+  ends-over below end.NotReady ends = ends-loaded below end.NotReady ends
+  ends-over below end.NotOpened ends = ends-loaded below end.NotOpened ends
+  ends-over below end.NoMemory ends = ends-loaded below end.NoMemory ends
+  ends-over below (end.NotLoaded e) ends = absurd ends
+
+-- ---- the journal was opened
+
+world-is : (readings content : Option (List ℕ)) (limits : Limits) (bytes : List ℕ) (mid : DbState) (place : ℕ) → content ≡ Some (take place bytes) → mid.limits ≡ limits
+    → kept readings content false mid ≡ kept readings (Some (take place bytes)) false (record { limits = limits; state = mid.state })
+world-is readings content limits bytes mid place stored same =
+    ap (λ (o : Option (List ℕ)). kept readings o false mid) stored
+    ∙ ap (λ (l : Limits). kept readings (Some (take place bytes)) false (record { limits = l; state = mid.state })) same
+
+pub opened-over : (run : HostView) → IsBounded run.seen.limits.wire → (bytes : List ℕ) (between left : Option (List ℕ)) (mid : DbState) (e : HostEnd)
+    → IsOpened (Ok tt) run.seen.limits.wire run.budget (record { limits = run.seen.limits; state = empty }) mid bytes between
+    → EndsFrom run (kept run.seen.readings between false mid) left e → EndsOver run bytes left e
+opened-over run bounded bytes between left mid e opened ends =
+    ends-over run bounded bytes left mid.state opened.0 opened.1 opened.4 e
+    (subst (λ (w : Snapshot). EndsFrom run w left e) (world-is run.seen.readings between run.seen.limits bytes mid opened.0 opened.3 opened.2) ends)
+
+-- the journal was not loaded
+pub unopened-over : (run : HostView) (bytes : List ℕ) (left : Option (List ℕ)) (mid : DbState) (e : JournalEnd) → run.same_hub → run.same_output → run.same_clock
+    → IsOpened (Err e) run.seen.limits.wire run.budget (record { limits = run.seen.limits; state = empty }) mid bytes left → EndsOver run bytes left (end.NotLoaded e)
+unopened-over run bytes left mid (journal.Answered e) hub output clock opened = absurd opened
+unopened-over run bytes left mid journal.AppendFault hub output clock opened = absurd opened
+unopened-over run bytes left mid journal.LoadFault hub output clock opened = (hub, output, clock, opened)
+unopened-over run bytes left mid (journal.Broken place) hub output clock opened = (opened.2, opened.0, (hub, output, clock, opened.1))
+unopened-over run bytes left mid journal.OverBudget hub output clock opened = (opened.0, (hub, output, clock, opened.1))
+unopened-over run bytes left mid journal.NoMemory hub output clock opened = (hub, output, clock, opened)
+
+-- ---- the status if no device fails
+
+weight-append : (one two : List Step) → weight (one ++ two) ≡ weight one + weight two
+weight-append [] two = omega arith
+weight-append (step ∷ one) two = omega (arith, weight-append one two)
+
+some-step : (a b : List Step) → Some a ≡ Some b → a ≡ b
+some-step a b is = (cc)
+
+none-taken : (steps : List Step) → Some steps ≡ None → ⊥
+none-taken steps is = (cc)
+
+taken-within : (coming left : Option (List Step)) (steps taken : List Step) → coming ≡ Some steps → Takes coming left taken → weight taken ≤ weight steps
+taken-within coming None steps taken told takes = absurd (none-taken steps (sym told ∙ takes))
+taken-within coming (Some rest) steps taken told takes =
+    let same : steps ≡ taken ++ rest = some-step steps (taken ++ rest) (sym told ∙ takes) in
+    omega (arith, ap weight same, weight-append taken rest)
+
+module _ (run : HostView) (before now : Faults) (steps : List Step) (told : run.coming ≡ Some steps) (below : weight steps < run.budget) (none : NoHostFault before now) where
+  served-status : (from : Snapshot) (left : Option (List ℕ)) (e : HubEnd) → Served run from left e → HasHostCauses (status_of (end.Served e)) before now → IsOutOfMemoryOr (status_of (end.Served e)) status.Ended
+  served-status from left served.Ended ends causes = inr refl
+  served-status from left served.Budget ends causes =
+      absurd (omega (arith, below, ends.answered.1, taken-within run.coming run.coming_left steps ends.steps told ends.takes))
+  served-status from left (served.Stopped fault.Hub) ends causes = absurd (none.hub (causes.hub refl))
+  served-status from left (served.Stopped fault.Line) ends causes = absurd (none.lines (causes.lines refl))
+  served-status from left (served.Stopped fault.Journal) ends causes = absurd (none.journal (causes.journal refl))
+  served-status from left (served.Stopped fault.Memory) ends causes = inl refl
+
+  -- in memory alone
+  pub status-from : (from : Snapshot) (left : Option (List ℕ)) (e : HostEnd) → EndsFrom run from left e → HasHostCauses (status_of e) before now → IsOutOfMemoryOr (status_of e) status.Ended
+  status-from from left (end.Served e) ends causes = served-status from left e ends causes
+  status-from from left end.NotReady ends causes = absurd (none.lines (causes.lines refl))
+  status-from from left end.NotOpened ends causes = absurd (none.hub (causes.hub refl))
+  status-from from left end.NoMemory ends causes = inl refl
+  status-from from left (end.NotLoaded e) ends causes = absurd ends
+
+  -- the status for a journal shorter than the budget
+  hosted-below : (bytes : List ℕ) (l : Load) → length bytes < run.budget → load run.seen.limits bytes ≡ l → status_hosted run.seen.limits run.budget bytes ≡ status_loaded l status.Ended
+  hosted-below bytes l within is =
+      ap (λ (b : Bool). if b then status.Budget else status_loaded (load run.seen.limits bytes) status.Ended) (lt-leb run.budget (length bytes) within)
+      ∙ ap (λ (x : Load). status_loaded x status.Ended) is
+
+  loaded-status : (bytes : List ℕ) (left : Option (List ℕ)) (e : HostEnd) → EndsLoaded run bytes left e → HasHostCauses (status_of e) before now
+      → IsOutOfMemoryOr (status_of e) (status_hosted run.seen.limits run.budget bytes)
+  loaded-status bytes left e ends causes =
+      subst (λ (s : Status). IsOutOfMemoryOr (status_of e) s) (sym (hosted-below bytes (Loads ends.loaded ends.place) ends.read_whole ends.loads))
+      (status-from (world_loaded run bytes left ends.loaded ends.place) left e ends.ends causes)
+
+  -- with a journal
+  pub status-over : (bytes : List ℕ) (left : Option (List ℕ)) (e : HostEnd) → EndsOver run bytes left e → HasHostCauses (status_of e) before now
+      → IsOutOfMemoryOr (status_of e) (status_hosted run.seen.limits run.budget bytes)
+  status-over bytes left (end.Served e) ends causes = loaded-status bytes left (end.Served e) ends causes
+  status-over bytes left end.NotReady ends causes = loaded-status bytes left end.NotReady ends causes
+  status-over bytes left end.NotOpened ends causes = loaded-status bytes left end.NotOpened ends causes
+  status-over bytes left end.NoMemory ends causes = loaded-status bytes left end.NoMemory ends causes
+  status-over bytes left (end.NotLoaded (journal.Answered e)) ends causes = absurd ends
+  status-over bytes left (end.NotLoaded journal.AppendFault) ends causes = absurd ends
+  status-over bytes left (end.NotLoaded journal.LoadFault) ends causes = absurd (none.journal (causes.journal refl))
+  status-over bytes left (end.NotLoaded (journal.Broken place)) ends causes = inr (sym (hosted-below bytes (BreaksAt place) ends.0 ends.1))
+  status-over bytes left (end.NotLoaded journal.OverBudget) ends causes =
+      inr (sym (ap (λ (b : Bool). if b then status.Budget else status_loaded (load run.seen.limits bytes) status.Ended) (le-leb run.budget (length bytes) ends.0)))
+  status-over bytes left (end.NotLoaded journal.NoMemory) ends causes = inl refl
