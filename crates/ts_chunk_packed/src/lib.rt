@@ -5,7 +5,6 @@
 
 mod chunk;
 mod coding;
-mod concatenation;
 mod context;
 mod decoder;
 mod interval_scan;
@@ -13,7 +12,6 @@ mod late_marks;
 mod mark;
 mod marks;
 mod varint;
-mod zigzag;
 
 pub use chunk::PackedChunk;
 pub use coding::packed_samples_read_back;

@@ -4,9 +4,8 @@ ghost use Rattle.ts_spec.specs.Value.{bound, value, nearest, signed, decimal_of}
 ghost use Rattle.ts_decimal.specs.Leading.{Leads};
 ghost use Rattle.ts_decimal.specs.Reading.{IsSpelled, in_range_of};
 
-use crate::leading::Leading;
-use crate::lexer::{read_exponent, split_sign};
-use crate::powers::power_of_ten;
+use crate::arithmetic::power_of_ten;
+use crate::lexer::{Leading, read_exponent, split_sign};
 use crate::short::short_magnitude;
 use ts_sample::Units;
 use ts_spec::ValueFault;

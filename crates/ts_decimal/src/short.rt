@@ -3,8 +3,8 @@ ghost use Rattle.std.specs.Prelude.{◌≡◌, ℕ, ◌+◌, ◌*◌, ◌^◌, �
 ghost use Rattle.ts_spec.specs.Value.{digits, after_digits, number_after, decimal_of};
 ghost use Rattle.ts_decimal.specs.Reading.{IsRounded};
 
+use crate::arithmetic::power_of_ten;
 use crate::lexer::split_digit;
-use crate::powers::power_of_ten;
 use crate::reading::PLACES;
 
 /// The longest text that is parsed in 64 bits.

@@ -5,7 +5,6 @@ mod header;
 mod line;
 mod order;
 mod out;
-mod pair;
 mod parts;
 mod protocol;
 mod reader;
@@ -14,8 +13,9 @@ mod text;
 mod word;
 
 pub use out::Out;
-pub use pair::{PAIR_BYTES, write_pair};
-pub use parts::{GAP, close_array, encode_bulk, encode_count, open_array, reserve_items};
+pub use parts::{
+    GAP, PAIR_BYTES, close_array, encode_bulk, encode_count, open_array, reserve_items, write_pair,
+};
 pub use protocol::Protocol;
 pub use reader::{Next, Reader};
 pub use reply::{Reply, begin_array, encode, put, size_of};

@@ -6,9 +6,8 @@ ghost use Rattle.ts_sample.specs.Chunk.{IsCut, HaveLimit, IsLimit};
 ghost use Rattle.ts_sample.specs.Steps.{Takes};
 
 use crate::chunk::Chunk;
-use crate::sample::{MAX_TIME, Sample};
+use crate::sample::{MAX_TIME, Sample, find, index_range};
 use crate::steps::Steps;
-use crate::time_search::{find, index_range};
 use crate::visit::SampleCollector;
 use std::alloc::{AllocError, Global};
 use std::sync::ledger::Ledger;

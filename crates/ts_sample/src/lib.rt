@@ -6,12 +6,10 @@ mod changed;
 mod chunk;
 mod sample;
 mod steps;
-mod time_search;
 mod visit;
 
 pub use chunk::Chunk;
-pub use sample::{Cell, Id, MAX_TIME, Sample};
+pub use sample::{Cell, Id, MAX_TIME, Sample, find, index_range, lower_bound, upper_bound};
 pub use steps::Steps;
-pub use time_search::{find, index_range, lower_bound, upper_bound};
 pub use ts_spec::Units;
 pub use visit::{SampleCollector, Visit};
