@@ -10,9 +10,9 @@ use Rattle.ts_command.specs.declared.fault.CommandFault.{CommandFault}
 use Rattle.ts_command.specs.declared.fault.CommandFault.TheVariants as code
 use Rattle.ts_command.specs.Faults.{fault_of, fault_of_word, message, IsFaultOrMemory, MatchesOrMemory}
 use Rattle.ts_command.specs.Answers.{IsFaultIn}
-use Rattle.ts_command.specs.declared.word_fault.WordFault.{WordFault}
-use Rattle.ts_command.specs.declared.word_fault.ReadFault.{ReadFault}
-use Rattle.ts_command.specs.declared.word_fault.ReadFault.TheVariants as read
+use Rattle.ts_command.specs.declared.fault.WordFault.{WordFault}
+use Rattle.ts_command.specs.declared.fault.ReadFault.{ReadFault}
+use Rattle.ts_command.specs.declared.fault.ReadFault.TheVariants as read
 
 -- the fault of the words with its message
 pub record IsFaultOfWords (words : Request) (fault : CommandFault) : Type 0 where

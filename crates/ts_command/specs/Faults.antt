@@ -6,10 +6,10 @@ use Rattle.ts_spec.specs.Messages.{fault_message, memory_message}
 use Rattle.std.specs.declared.alloc.AllocError.{AllocError}
 use Rattle.ts_command.specs.declared.fault.CommandFault.{CommandFault}
 use Rattle.ts_command.specs.declared.fault.CommandFault.TheVariants as code
-use Rattle.ts_command.specs.declared.word_fault.WordFault.{WordFault}
-use Rattle.ts_command.specs.declared.word_fault.WordFault.TheVariants as word
-use Rattle.ts_command.specs.declared.word_fault.ReadFault.{ReadFault}
-use Rattle.ts_command.specs.declared.word_fault.ReadFault.TheVariants as read
+use Rattle.ts_command.specs.declared.fault.WordFault.{WordFault}
+use Rattle.ts_command.specs.declared.fault.WordFault.TheVariants as word
+use Rattle.ts_command.specs.declared.fault.ReadFault.{ReadFault}
+use Rattle.ts_command.specs.declared.fault.ReadFault.TheVariants as read
 
 -- The error in the words. `Memory` has no counterpart: no command contains it, and results that allow it say so.
 abbrev pub fault_of : CommandFault → Fault

@@ -6,8 +6,8 @@ use Rattle.ts_spec.specs.SeriesOptions.{has_labels}
 use Rattle.ts_spec.specs.Grammar.{Form, form, list_form, option_form, create, alter, add, madd, incr, by_threes, del_range, create_rule, delete_rule, range, many_ranges, get_last, last_of_many, query_index, info, ping, echo}
 use Rattle.ts_command.specs.declared.forms.Sign.{Sign}
 use Rattle.ts_command.specs.declared.forms.Sign.TheVariants.{Plus, Minus}
-use Rattle.ts_command.specs.declared.verb.Verb.{Verb}
-use Rattle.ts_command.specs.declared.verb.Verb.TheVariants as verb
+use Rattle.ts_command.specs.declared.request.Verb.{Verb}
+use Rattle.ts_command.specs.declared.request.Verb.TheVariants as verb
 
 -- the grammar of a command
 abbrev pub form_of : Verb → Form

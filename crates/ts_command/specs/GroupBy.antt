@@ -1,6 +1,6 @@
 -- GROUPBY as a value of the specification.
 use Rattle.ts_spec.specs.Command as spec
-use Rattle.ts_command.specs.declared.group_by.GroupBy.{GroupBy}
+use Rattle.ts_command.specs.declared.range_options.GroupBy.{GroupBy}
 
 -- the label to group by, and the reducer
 abbrev pub group_of : GroupBy → spec.GroupBy

@@ -1,20 +1,18 @@
 // Commands on one series. Each function gets the whole request, its name included, and parses it in place; the key is
 // moved out at the end. Requests without options take a short path that collects no option values.
 ghost use Rattle.std.specs.Prelude.{◌≡◌, drop, IfOk, IsTrue};
-ghost use Rattle.ts_spec.specs.Grammar.{create, add, incr, del_range, range};
+ghost use Rattle.ts_spec.specs.Grammar.{create, alter, add, incr, del_range};
 ghost use Rattle.ts_spec.specs.SeriesOptions.{has_labels};
 ghost use Rattle.ts_command.specs.Answers.{HasTime};
 ghost use Rattle.ts_command.specs.Faults.{Matches, MatchesOrMemory};
 ghost use Rattle.ts_command.specs.Forms.{signed_by};
 ghost use Rattle.ts_command.specs.Reading.{command_of};
-ghost use Rattle.ts_spec.specs.Ranges.{has_list};
 
 use crate::command::Command;
+use crate::fault::{ReadFault, WordFault};
 use crate::given::Given;
 use crate::option_word::OptionSet;
 use crate::options::read_given;
-use crate::with_options::{add_with_options, create_with_options, incr_with_options};
-use crate::word_fault::{ReadFault, WordFault};
 use crate::words::{at_word, end_word, value_word};
 use ts_resp::Word;
 use ts_sample::Units;
@@ -107,25 +105,77 @@ pub(crate) fn read_del_range(mut words: Vec<Word>) -> Result<Command, WordFault>
     })
 }
 
-pub(crate) fn read_range(reverse: bool, mut words: Vec<Word>) -> Result<Command, ReadFault>
-    ensures command { MatchesOrMemory (IsTrue (has_list (drop 3 (drop 1 words.items)))) command_of result
-        (range reverse (drop 1 words.items)) }
+#[inline(never)]
+pub(crate) fn create_with_options(mut words: Vec<Word>) -> Result<Command, ReadFault>
+    ensures command { MatchesOrMemory (IsTrue (has_labels (drop 1 (drop 1 words.items)))) command_of result
+        (create (drop 1 words.items)) }
     ensures time { IfOk result HasTime }
 {
     let alloc = *words.allocator();
-    let [_, _, from, to, options @ ..] = words.as_slice() else {
+    let [_, _, options @ ..] = words.as_slice() else {
         return Err(ReadFault::Word(WordFault::Arity));
     };
-    let first = end_word(from.bytes())?;
-    let last = end_word(to.bytes())?;
-    let given = read_given(alloc, OptionSet::Range, options)?;
-    let latest = given.latest;
-    let query = given
-        .range
-        .query(reverse, from.bytes(), to.bytes(), first, last)?;
-    Ok(Command::Range {
+    let given = read_given(alloc, OptionSet::Create, options)?;
+    Ok(Command::Create {
         key: words.swap_remove(1),
-        latest,
-        query,
+        spec: given.spec(alloc),
+    })
+}
+
+pub(crate) fn read_alter(mut words: Vec<Word>) -> Result<Command, ReadFault>
+    ensures command { MatchesOrMemory (IsTrue (has_labels (drop 1 (drop 1 words.items)))) command_of result
+        (alter (drop 1 words.items)) }
+    ensures time { IfOk result HasTime }
+{
+    let alloc = *words.allocator();
+    let [_, _, options @ ..] = words.as_slice() else {
+        return Err(ReadFault::Word(WordFault::Arity));
+    };
+    let given = read_given(alloc, OptionSet::Alter, options)?;
+    Ok(Command::Alter {
+        key: words.swap_remove(1),
+        change: given.change(),
+    })
+}
+
+#[inline(never)]
+pub(crate) fn add_with_options(mut words: Vec<Word>) -> Result<Command, ReadFault>
+    ensures command { MatchesOrMemory (IsTrue (has_labels (drop 3 (drop 1 words.items)))) command_of result
+        (add (drop 1 words.items)) }
+    ensures time { IfOk result HasTime }
+{
+    let alloc = *words.allocator();
+    let [_, _, time, value, options @ ..] = words.as_slice() else {
+        return Err(ReadFault::Word(WordFault::Arity));
+    };
+    let at = at_word(time.bytes())?;
+    let value = value_word(value.bytes())?;
+    let given = read_given(alloc, OptionSet::Add, options)?;
+    Ok(Command::Add {
+        key: words.swap_remove(1),
+        at,
+        value,
+        on: given.on,
+        spec: given.spec(alloc),
+    })
+}
+
+#[inline(never)]
+pub(crate) fn incr_with_options(sign: Sign, mut words: Vec<Word>) -> Result<Command, ReadFault>
+    ensures command { MatchesOrMemory (IsTrue (has_labels (drop 2 (drop 1 words.items)))) command_of result
+        (incr (signed_by sign) (drop 1 words.items)) }
+    ensures time { IfOk result HasTime }
+{
+    let alloc = *words.allocator();
+    let [_, _, value, options @ ..] = words.as_slice() else {
+        return Err(ReadFault::Word(WordFault::Arity));
+    };
+    let value = value_word(value.bytes())?;
+    let given = read_given(alloc, OptionSet::Incr, options)?;
+    Ok(Command::Incr {
+        key: words.swap_remove(1),
+        change: sign.of(value),
+        at: given.at.unwrap_or(At::Clock),
+        spec: given.spec(alloc),
     })
 }

@@ -5,8 +5,8 @@ ghost use Rattle.ts_spec.specs.Sample.{MAX_TIME};
 ghost use Rattle.ts_spec.specs.Settings.{IsTime};
 ghost use Rattle.ts_spec.specs.SeriesOptions.{IsChunkSize};
 
-use crate::group_by::GroupBy;
 use crate::range_given::RangeGiven;
+use crate::range_options::GroupBy;
 use std::alloc::Global;
 use ts_labels::{Change, Filter, Labels, Show, Spec};
 use ts_spec::{At, Encoding, Ignore, Options, Policy};

@@ -2,34 +2,27 @@
 //! reference; letter case does not matter.
 #![tactic(auto)]
 
-mod clock;
 mod command;
 mod fault;
 mod forms;
 mod given;
-mod group_by;
-mod ignore_option;
-mod labels_option;
 mod list_arguments;
-mod multi_commands;
 mod names;
 mod option_word;
 mod options;
+mod queries;
 mod range_given;
 mod range_options;
 mod request;
-mod rule;
+mod series_options;
 mod simple_add;
 mod simple_commands;
 mod triple;
-mod verb;
-mod with_options;
-mod word_fault;
 mod words;
 
 pub use command::{Command, Triple};
 pub use fault::CommandFault;
-pub use group_by::GroupBy;
+pub use range_options::GroupBy;
 pub use request::read;
 pub use simple_add::SimpleAdd;
 pub use ts_agg::{AggFault, read_reducer};

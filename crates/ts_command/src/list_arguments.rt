@@ -1,12 +1,12 @@
 // The arguments of one option: splitting them off, and parsing lists of times, labels and filters.
 ghost use Rattle.std.specs.Prelude.{◌≡◌, ◌≢◌, [], ◌∷◌, take, drop, IfOk, IfErr, ◌≤◌, ⊤, All};
-ghost use Rattle.ts_command.specs.declared.word_fault.WordFault.TheVariants.{BadOption};
 ghost use Rattle.ts_spec.specs.Sample.{MAX_TIME};
 ghost use Rattle.ts_spec.specs.Ranges.{times_of};
 ghost use Rattle.ts_spec.specs.ManySeries.{filter_word, filters_of, names_of};
+ghost use Rattle.ts_command.specs.declared.fault.WordFault.TheVariants.{BadOption};
 ghost use Rattle.ts_command.specs.Faults.{MatchesOrMemory};
 
-use crate::word_fault::{ReadFault, WordFault};
+use crate::fault::{ReadFault, WordFault};
 use crate::words::time_word;
 use std::alloc::{AllocError, Global};
 use ts_labels::{Filter, FilterFault};

@@ -6,16 +6,14 @@ ghost use Rattle.ts_command.specs.Faults.{Matches, MatchesOrMemory};
 ghost use Rattle.ts_command.specs.Given.{given_of};
 ghost use Rattle.ts_command.specs.Options.{setting_of, table_of, is_list, list_option, is_list_option, may_have_list};
 
+use crate::fault::{ReadFault, WordFault};
 use crate::given::Given;
-use crate::group_by::add_group;
-use crate::ignore_option::add_ignore;
-use crate::labels_option::{count_pairs, read_labels};
 use crate::list_arguments::{
     list_arguments, read_filters, read_names, read_times, single_argument, split_arguments,
 };
 use crate::option_word::{OptionSet, OptionWord};
-use crate::range_options::{add_aggregation, add_align, add_stamp, add_values};
-use crate::word_fault::{ReadFault, WordFault};
+use crate::range_options::{add_aggregation, add_align, add_group, add_stamp, add_values};
+use crate::series_options::{add_ignore, count_pairs, read_labels};
 use crate::words::{
     at_word, chunk_size_word, count_word, encoding_word, policy_word, retention_word,
 };

@@ -4,7 +4,7 @@ ghost use Rattle.std.specs.Option.{ForSome};
 ghost use Rattle.ts_spec.specs.Ranges.{IsDuration, IsAlign};
 ghost use Rattle.ts_spec.specs.Sample.{MAX_TIME};
 
-use crate::word_fault::WordFault;
+use crate::fault::WordFault;
 use ts_bucket::{Grid, Stamp};
 use ts_range::{Buckets, Query};
 use ts_sample::Units;

@@ -9,8 +9,7 @@ ghost use Rattle.ts_command.specs.Faults.{MatchesOrMemory, IsNoMemory, result_wi
 ghost use Rattle.ts_command.specs.Reading.{command_of, triple_of, triples_of};
 
 use crate::command::{Command, Triple};
-use crate::fault::CommandFault;
-use crate::word_fault::ReadFault;
+use crate::fault::{CommandFault, ReadFault};
 use crate::words::{at_word, value_word};
 use std::alloc::{AllocError, Global};
 use std::vec::IntoIter;

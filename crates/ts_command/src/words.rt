@@ -3,14 +3,13 @@ ghost use Rattle.std.specs.Prelude.{◌≡◌, ◌≤◌, IfSome, IfOk};
 ghost use Rattle.ts_spec.specs.Number.{number};
 ghost use Rattle.ts_spec.specs.Sample.{MAX_TIME};
 ghost use Rattle.ts_spec.specs.Settings.{IsTime, time_word, end_word, at_word, value_word};
-ghost use Rattle.ts_spec.specs.SeriesOptions.{IsChunkSize, retention_word, chunk_size_word, policy_word};
-ghost use Rattle.ts_spec.specs.SeriesOptions.{encoding_word};
+ghost use Rattle.ts_spec.specs.SeriesOptions.{IsChunkSize, retention_word, chunk_size_word, policy_word, encoding_word};
 ghost use Rattle.ts_spec.specs.Ranges.{count_word, IsDuration, IsAlign, aggregator_word, duration_word, align_word};
 ghost use Rattle.ts_spec.specs.Ranges.{stamp_word};
 ghost use Rattle.ts_command.specs.Faults.{MatchesSame};
 
+use crate::fault::WordFault;
 use crate::names::{align_named, encoding_named, policy_named, stamp_named};
-use crate::word_fault::WordFault;
 use ts_agg::{AggFault, Aggregator, read_aggregator};
 use ts_bucket::{LONGEST, Stamp};
 use ts_decimal::parse;

@@ -1,7 +1,6 @@
 //! A generated workload for the server: the requests drawn from a seed, as the bytes that a client sends.
 #![tactic(auto)]
 
-mod changes;
 mod keys;
 mod laws;
 mod words;

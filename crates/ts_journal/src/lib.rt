@@ -3,9 +3,7 @@
 
 mod changes;
 mod draft;
-mod fixed;
 mod laws;
-mod limits;
 mod options;
 mod record;
 mod reply;
@@ -15,5 +13,4 @@ pub use laws::{
     a_journal_grows_by_records, fronts_of_a_journal_load, records_read_back, steps_are_executed,
     what_is_not_recorded_changes_nothing,
 };
-pub use limits::limits_of;
-pub use record::Record;
+pub use record::{Record, limits_of};

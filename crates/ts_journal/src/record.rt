@@ -1,14 +1,23 @@
-// The record of one change.
-ghost use Rattle.std.specs.Prelude.{◌≡◌, is_some, IfOk, IfSome};
+// The record of one change, and how large the requests of a journal may be.
+ghost use Rattle.std.specs.Prelude.{◌≡◌, is_some, IfOk, IfSome, OnOk, List, All};
+ghost use Rattle.ts_spec.specs.Encoded.{Fits, encoded};
+ghost use Rattle.ts_spec.specs.Wire.{Request, Ended, stream_at, requests_of, ending_of};
+ghost use Rattle.ts_command.specs.Reading.{command_of};
+ghost use Rattle.ts_journal.specs.Draft.{AppendsWords};
+ghost use Rattle.ts_journal.specs.Fixed.{is_fixed, fixed_words};
+ghost use Rattle.ts_journal.specs.Limits.{IsBounded, IsRecordWithin, journal_limits};
 
-use crate::changes::{draft_add, time_of};
+use crate::changes::{
+    draft_add, draft_alter, draft_create, draft_create_rule, draft_del_range, draft_delete_rule,
+    draft_drop, draft_incr, time_of,
+};
 use crate::draft::Draft;
-use crate::fixed::{draft_fixed, is_fixed};
 use crate::reply::is_error;
 use crate::triples::Triples;
 use std::alloc::{AllocError, Global};
 use ts_command::{Command, SimpleAdd};
 use ts_resp::Out;
+use ts_spec::WireLimits;
 
 // What is known of a record before the reply.
 #[derive(Drop)]
@@ -94,5 +103,79 @@ impl Record {
             Content::Fixed(out) => out.bytes(),
             Content::Triples(triples) => triples.accepted_part(reply),
         }
+    }
+}
+
+// Whether a command has such a record.
+pub(crate) fn is_fixed(command: &Command) -> bool
+    ensures { result ≡ is_fixed (command_of command.now) }
+{
+    match command {
+        Command::Create { .. }
+        | Command::Alter { .. }
+        | Command::Add { .. }
+        | Command::Incr { .. }
+        | Command::DelRange { .. }
+        | Command::CreateRule { .. }
+        | Command::DeleteRule { .. }
+        | Command::Drop { .. } => true,
+        _ => false,
+    }
+}
+
+// Appends its arguments. Appends none if the command has no such record.
+pub(crate) fn draft_fixed(
+    draft: &mut Draft,
+    command: &Command,
+    reading: u64,
+) -> Result<(), AllocError>
+    ensures { OnOk result (AppendsWords draft.old draft.new (fixed_words reading (command_of command.now))) }
+{
+    match command {
+        Command::Create { key, spec } => draft_create(draft, key, spec),
+        Command::Alter { key, change } => draft_alter(draft, key, change),
+        Command::Add {
+            key,
+            at,
+            value,
+            on,
+            spec,
+        } => draft_add(draft, key, time_of(*at, reading), *value, *on, spec),
+        Command::Incr {
+            key,
+            change,
+            at,
+            spec,
+        } => draft_incr(draft, key, *change, time_of(*at, reading), spec),
+        Command::DelRange { key, from, to } => draft_del_range(draft, key, *from, *to),
+        Command::CreateRule {
+            source,
+            dest,
+            agg,
+            grid,
+        } => draft_create_rule(draft, source, dest, *agg, grid.align(), grid.duration()),
+        Command::DeleteRule { source, dest } => draft_delete_rule(draft, source, dest),
+        Command::Drop { keys } => draft_drop(draft, keys),
+        _ => Ok(()),
+    }
+}
+
+/// The limits for the journal of a server with limits `limits`. If a request within `limits`, an array or an inline
+/// line, is a command, its record fits the journal's limits. Records written one after another read back under them.
+/// Allocates nothing.
+pub fn limits_of(limits: WireLimits) -> WireLimits
+    requires { IsBounded limits }
+    ensures exact { result ≡ journal_limits limits }
+    ensures fits { (request : Request) → IsRecordWithin limits request → Fits result request }
+    ensures requests { (records : List Request) → All (IsRecordWithin limits) records
+        → requests_of (stream_at result 0 (encoded records)) ≡ records }
+    ensures ending { (records : List Request) → All (IsRecordWithin limits) records
+        → ending_of (stream_at result 0 (encoded records)) ≡ Ended }
+{
+    WireLimits {
+        words: limits.words + limits.line_bytes + 32,
+        word_bytes: limits.word_bytes + limits.line_bytes + 32,
+        request_bytes: 24 * (limits.request_bytes + limits.line_bytes) + 512,
+        line_bytes: limits.line_bytes,
     }
 }

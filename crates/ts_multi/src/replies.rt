@@ -1,12 +1,15 @@
-// Replies to queries over many series: the members, and the array of their replies.
-ghost use Rattle.std.specs.Prelude.{◌≡◌, All, map, IfOk};
+// Replies to queries over many series: the members, their replies, and the array of these.
+ghost use Rattle.std.specs.Prelude.{◌≡◌, All, map, IfOk, [], ◌∷◌, pos};
+ghost use Rattle.std.specs.Option.{option_copied};
 ghost use Rattle.ts_spec.specs.Replies.{array as array_of, member_reply as shown_member};
 ghost use Rattle.ts_spec.specs.Replies.{last_member_reply as shown_last};
+ghost use Rattle.ts_spec.specs.Replies as spec;
+ghost use Rattle.ts_spec.specs.Text.{Bulk};
 ghost use Rattle.ts_resp.specs.Replies.{reply_of};
-ghost use Rattle.ts_multi.specs.Members.{members_of, HasAtMostOneRow};
+ghost use Rattle.ts_range.specs.Query.{row_of};
+ghost use Rattle.ts_multi.specs.Members.{members_of, HasAtMostOneRow, label_of, member_showing};
 
-use crate::member_replies::{array, last_member_reply, member_reply};
-use crate::shown::SeriesLabels;
+use crate::shown::{ReplyLabel, ReplyLabelList, SeriesLabels};
 use std::alloc::{AllocError, Global};
 use ts_labels::{Labels, Show};
 use ts_range::Row;
@@ -55,4 +58,106 @@ pub fn multi_last(alloc: Global, members: &[Member], show: &Show) -> Result<Repl
         replies.push_reserved(last_member_reply(alloc, member.key.bytes(), &labels, &member.rows)?);
     }
     Ok(array(replies))
+}
+
+/// `[key, labels, rows]`.
+pub fn member_reply<S: ReplyLabelList>(
+    alloc: Global,
+    key: &[u8],
+    labels: &S,
+    rows: &[Row],
+) -> Result<Reply, AllocError>
+    ensures { IfOk result (λ reply. reply_of reply
+        ≡ spec.member_reply (member_showing key.now (S.shown labels.now) (map row_of rows.now))) }
+{
+    let mut replies = Vec::with_capacity(alloc, rows.len())?;
+    for row in rows {
+        replies.push_reserved(row_reply(alloc, *row)?);
+    }
+    reply_with(alloc, key, labels, array(replies))
+}
+
+// `[key, labels, row]`, with the first row, or an empty array if there is none.
+pub(crate) fn last_member_reply<S: ReplyLabelList>(
+    alloc: Global,
+    key: &[u8],
+    labels: &S,
+    rows: &[Row],
+) -> Result<Reply, AllocError>
+    ensures { IfOk result (λ reply. reply_of reply
+        ≡ spec.last_member_reply (member_showing key.now (S.shown labels.now) (map row_of rows.now))) }
+{
+    let row = match rows.first() {
+        None => array(Vec::new(alloc)),
+        Some(row) => row_reply(alloc, *row)?,
+    };
+    reply_with(alloc, key, labels, row)
+}
+
+// `[key, labels, last]`.
+fn reply_with<S: ReplyLabelList>(
+    alloc: Global,
+    key: &[u8],
+    labels: &S,
+    last: Reply,
+) -> Result<Reply, AllocError>
+    ensures { IfOk result (λ reply. reply_of reply
+        ≡ spec.array (Bulk key.now ∷ spec.labels_reply (S.shown labels.now) ∷ reply_of last ∷ [])) }
+{
+    let key = Reply::Bulk(Word::from_slice(alloc, key)?);
+    let labels = labels_reply(alloc, labels)?;
+    Ok(array(vec![in alloc; key, labels, last]?))
+}
+
+// The array of the labels that the reply shows.
+fn labels_reply<S: ReplyLabelList>(alloc: Global, labels: &S) -> Result<Reply, AllocError>
+    ensures { IfOk result (λ reply. reply_of reply ≡ spec.labels_reply (S.shown labels.now)) }
+{
+    let count = labels.count();
+    let mut replies = Vec::with_capacity(alloc, count)?;
+    for list_index in 0..count {
+        replies.push_reserved(label_reply(alloc, labels.label(list_index))?);
+    }
+    Ok(array(replies))
+}
+
+// `[label, value]`, with nil for an absent value.
+fn label_reply(alloc: Global, label: ReplyLabel<'_>) -> Result<Reply, AllocError>
+    ensures { IfOk result (λ reply. reply_of reply ≡ spec.shown_label_reply (label_of label.entry)) }
+{
+    let name = Reply::Bulk(Word::from_slice(alloc, label.name)?);
+    let value = bulk_or_nil(alloc, label.value)?;
+    Ok(array(vec![in alloc; name, value]?))
+}
+
+// A bulk string, or nil.
+fn bulk_or_nil(alloc: Global, value: Option<&[u8]>) -> Result<Reply, AllocError>
+    ensures { IfOk result (λ reply. reply_of reply ≡ spec.bulk_or_nil (option_copied value.entry)) }
+{
+    match value {
+        None => Ok(Reply::Nil),
+        Some(value) => Ok(Reply::Bulk(Word::from_slice(alloc, value)?)),
+    }
+}
+
+// `[time, value]`.
+fn row_reply(alloc: Global, row: Row) -> Result<Reply, AllocError>
+    ensures { IfOk result (λ reply. reply_of reply ≡ spec.row_reply (row_of row)) }
+{
+    let value = Reply::Value(row.value);
+    Ok(array(vec![in alloc; Reply::Int(signed_time(row)), value]?))
+}
+
+// The time of a row as a reply integer.
+fn signed_time(row: Row) -> i64
+    ensures { result ≡ pos row.time }
+{
+    row.time as i64
+}
+
+// The array of these replies.
+pub(crate) fn array(replies: Vec<Reply>) -> Reply
+    ensures { reply_of result ≡ spec.array (map reply_of replies.items) }
+{
+    Reply::Array(replies)
 }

@@ -1,17 +1,16 @@
 // Answers a query from samples that were collected before.
 ghost use Rattle.std.specs.Prelude.{◌≡◌, ◌≢◌, ◌≤◌, ◌^◌, List, [], map, reverse, Some, IfOk, IfErr, OnOk};
 ghost use Rattle.ts_spec.specs.Sample.{Point, IsAscending, between};
+ghost use Rattle.ts_spec.specs.Answer as spec;
+ghost use Rattle.ts_sample.specs.Visit.{visited};
 ghost use Rattle.ts_range.specs.Filters.{passes};
 ghost use Rattle.ts_range.specs.Query.{query_of, row_of};
 ghost use Rattle.ts_range.specs.BucketRanges.{FillsGaps, IsBucketRangeOf};
 ghost use Rattle.ts_range.specs.AskedSamples.{IsAskedOf};
 ghost use Rattle.ts_range.specs.SinkState.{HoldsUnlessLost};
-ghost use Rattle.ts_sample.specs.Visit.{visited};
-ghost use Rattle.ts_spec.specs.Answer as spec;
 
 use crate::bucket_range::BucketRange;
-use crate::empty::{are_too_many, before};
-use crate::fill_plan::gap_filling_buckets;
+use crate::fill_plan::{are_too_many, before, gap_filling_buckets};
 use crate::filters::Filters;
 use crate::query::{Asked, Buckets, Query, RangeFault, Row};
 use crate::row_scan::RowScan;

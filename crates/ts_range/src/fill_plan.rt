@@ -1,19 +1,21 @@
-// How to fill gaps: the buckets of an answer with EMPTY, and the values of the empty ones.
+// How to fill gaps: the buckets of an answer with EMPTY, their limit, and the values of the empty ones.
 ghost use Rattle.std.specs.Prelude.{◌≡◌, ◌≤◌, ◌<◌, ◌+◌, ◌^◌, IfNone, IfSome, Some, Option, length, option_map};
-ghost use Rattle.std.specs.Prelude.{slice_get};
-ghost use Rattle.ts_spec.specs.Sample.{MAX_TIME};
+ghost use Rattle.std.specs.Prelude.{slice_get, ◌&&◌, List, nat_lt, IsTrue};
+ghost use Rattle.ts_spec.specs.Sample.{MAX_TIME, Point, IsAscending, first_of, last_of};
 ghost use Rattle.ts_spec.specs.Answer.{Cell as TheCell};
 ghost use Rattle.ts_spec.specs.Bucket.{stamp};
-ghost use Rattle.ts_range.specs.Query.{cell_of};
-ghost use Rattle.ts_range.specs.Empty.{empty_cell_of};
+ghost use Rattle.ts_spec.specs.Answer as spec;
+ghost use Rattle.ts_range.specs.Query.{cell_of, query_of};
+ghost use Rattle.ts_range.specs.Empty.{empty_cell_of, known_before};
 ghost use Rattle.ts_range.specs.BucketRanges.{FillsGaps};
 ghost use Rattle.ts_range.specs.FillPlan.{fill_value_after, value_or_fill, fill_value_at};
 ghost use Rattle.ts_range.specs.Starts.{starts_of};
+ghost use Rattle.ts_range.specs.AskedSamples.{times_of};
 
-use crate::query::{Buckets, Query, Row};
+use crate::query::{Asked, Buckets, Query, Row};
 use crate::starts::Starts;
 use ts_agg::Aggregator;
-use ts_sample::{Cell, Sample, Units};
+use ts_sample::{Cell, Sample, Units, lower_bound};
 
 // The buckets to emit, and the values of empty ones before the first bucket with samples.
 #[derive(Clone, Copy)]
@@ -130,4 +132,39 @@ pub fn gap_filling_buckets(query: &Query) -> Option<Buckets>
 {
     let buckets = query.buckets?;
     if buckets.empty { Some(buckets) } else { None }
+}
+
+/// Whether the query asks for empty buckets and its answer has more than `limit` rows. `ends` are the times of the
+/// first and the last sample of the series, in milliseconds.
+pub fn are_too_many(query: &Query, ends: Option<(u64, u64)>, limit: u32) -> bool
+    ensures { (l : List Point)
+        → (IsTrue (spec.includes_empty (query_of query.now).buckets) → ends ≡ times_of (first_of l) (last_of l))
+        → result ≡ (spec.includes_empty (query_of query.now).buckets
+        && nat_lt limit (length (spec.rows (query_of query.now) l))) }
+{
+    let Some(buckets) = &query.buckets else {
+        return false;
+    };
+    if !buckets.empty {
+        return false;
+    }
+    match Starts::over(query, &buckets.grid, ends) {
+        None => false,
+        Some(starts) => u64::from(limit) < starts.wanted(query.count),
+    }
+}
+
+// The last sample before `start`, from the collected samples. `first` says that `start` begins the first bucket.
+pub(crate) fn before(asked: &Asked, start: u64, first: bool) -> Option<Sample>
+    requires { IsAscending asked.now.rows.items }
+    ensures { result ≡ known_before first start asked.now }
+{
+    if first {
+        return asked.ahead;
+    }
+    let samples = asked.rows.as_slice();
+    match samples[..lower_bound(samples, start)].last() {
+        Some(sample) => Some(*sample),
+        None => asked.prior,
+    }
 }

@@ -16,8 +16,7 @@ use crate::trail::Trail;
 use std::marker::Model;
 use ts_sample::{Cell, Sample, Units, Visit};
 
-/// Emits the row of a bucket as soon as a later sample arrives. A sample that the filters drop does not count for its
-/// own bucket, but empty buckets after it repeat its value.
+/// Emits a bucket's row once a later sample arrives. Empty buckets also repeat values that the filters drop.
 #[derive(Drop)]
 pub struct LastValues<'f, T: RowSink> {
     filters: &'f Filters,
@@ -30,7 +29,6 @@ pub struct LastValues<'f, T: RowSink> {
 // The current bucket. More samples may follow.
 #[derive(Clone, Copy)]
 pub(crate) struct Current {
-    // How many buckets were emitted before it, and the last value before it.
     place: Place,
     // The last value in it that passes the filters.
     chosen: Option<Cell>,
@@ -74,11 +72,10 @@ impl<'f, T: RowSink> LastValues<'f, T> {
         ensures { (lo hi : ℕ) → IsLine lo hi self.entry → T.has result (last_rows self.entry) }
     {
         let LastValues {
-            filters: _,
             filling,
             mut current,
             mut row_sink,
-            seen: _,
+            ..
         } = self;
         advance_to_last(&filling, &mut current, &mut row_sink);
         emit_row(&filling, &current, &mut row_sink);

@@ -5,7 +5,6 @@ mod answers;
 mod bucket;
 mod bucket_range;
 mod cutter;
-mod empty;
 mod fill_plan;
 mod filters;
 mod gap_filler;
@@ -18,8 +17,7 @@ mod trail;
 
 pub use answers::{answer, in_requested_order};
 pub use bucket_range::BucketRange;
-pub use empty::are_too_many;
-pub use fill_plan::gap_filling_buckets;
+pub use fill_plan::{are_too_many, gap_filling_buckets};
 pub use filters::Filters;
 pub use gap_filler::GapFiller;
 pub use last_values::LastValues;
