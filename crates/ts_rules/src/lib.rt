@@ -3,26 +3,20 @@
 #![tactic(auto)]
 
 mod count;
-mod count_with_write;
 mod deletion;
 mod deletion_buffers;
-mod dest_update;
 mod end_rows;
 mod fullness;
 mod interval_cursor;
 mod laws;
-mod lost_buckets;
-mod open_bucket;
 mod plan;
 mod rule;
 mod rule_plans;
 mod shared_bucket;
-mod span;
 mod write;
 
 pub use laws::plans_match_stored_state;
-pub use open_bucket::latest;
 pub use plan::{RuleFault, RulePlan};
-pub use rule::Rule;
+pub use rule::{Rule, latest};
 pub use rule_plans::{plan_delete, plan_put, plan_put_shared};
 pub use shared_bucket::SharedBucket;

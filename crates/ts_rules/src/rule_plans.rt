@@ -14,9 +14,8 @@ ghost use Rattle.ts_rules.specs.Shares.{write_share, deletion_share, IsEasyWrite
 use crate::count::ends_left;
 use crate::deletion::Deletion;
 use crate::deletion_buffers::DeletionBuffers;
-use crate::dest_update::with_row;
 use crate::fullness::is_full;
-use crate::plan::{RuleFault, RulePlan};
+use crate::plan::{RuleFault, RulePlan, with_row};
 use crate::rule::Rule;
 use crate::shared_bucket::SharedBucket;
 use crate::write::written;

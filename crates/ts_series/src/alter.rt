@@ -8,9 +8,8 @@ ghost use Rattle.ts_series.specs.History.{list_of, reach};
 ghost use Rattle.ts_series.specs.Plan.{IsForIn, Alters, options_with};
 
 use crate::change::Change;
-use crate::chunked_series::ChunkedSeries;
+use crate::chunked_series::{ChunkedSeries, edge_at};
 use crate::chunked_series_plan::{ChunkedSeriesPlan, Rows};
-use crate::edge::edge_at;
 use std::alloc::AllocError;
 use std::sync::ledger::Ledger;
 use ts_sample::{Chunk, Steps};

@@ -1,19 +1,21 @@
-// The fast path of most writes: a sample appended to the last chunk.
+// Writes that only the last sample decides: one appended to the last chunk, the fast path of most writes, and one that
+// IGNORE drops because it is close to the last sample.
 ghost use Rattle.std.specs.Prelude.{◌≡◌, ◌≤◌, true, IfSome, Some, Ok};
 ghost use Rattle.ts_spec.specs.Sample.{MAX_TIME, last_of};
 ghost use Rattle.ts_spec.specs.declared.series.Merge.{Merge as TheMerge};
+ghost use Rattle.ts_spec.specs.Ignoring.{is_near, is_close, ignored_after};
 ghost use Rattle.ts_sample.specs.Chunk.{IsPast};
 ghost use Rattle.ts_series.specs.Stored.{points, LastChunkFits};
-ghost use Rattle.ts_series.specs.History.{reach, IsKeptIn, KeepsLimits};
+ghost use Rattle.ts_series.specs.History.{reach, IsKeptIn, KeepsLimits, list_of};
 ghost use Rattle.ts_series.specs.Plan.{IsForIn, after, appends};
 ghost use Rattle.ts_series.specs.Put.{met, PutAnswers};
 
-use crate::chunked_series::ChunkedSeries;
+use crate::chunked_series::{ChunkedSeries, edge_at, raise};
 use crate::chunks::Chunks;
-use crate::edge::{edge_at, raise};
+use crate::series::{Series, SeriesByEncoding};
 use std::marker::Model;
 use ts_sample::{Chunk, Sample, Units};
-use ts_spec::Encoding;
+use ts_spec::{Encoding, Ignore, Policy};
 
 /// A planned append of one sample to the last chunk. It allocates nothing.
 #[derive(Drop)]
@@ -94,4 +96,58 @@ impl<C: Chunk> Chunks<C> {
             Some(chunk) => chunk.fits(sample),
         }
     }
+}
+
+impl Series {
+    /// The time of the last sample, in milliseconds, if the series ignores a sample with this time and value as too
+    /// close to it. This applies only with the policy `Last` and if no rule writes to the series, which the caller
+    /// has checked. Decodes nothing.
+    pub fn ignored(&self, time: u64, value: Units) -> Option<u64>
+        ensures { result ≡ ignored_after self.now.options (last_of (list_of self.now)) time value }
+    {
+        match &self.by_encoding {
+            SeriesByEncoding::Plain(line) => line.ignored(time, value),
+            SeriesByEncoding::Packed(line) => line.ignored(time, value),
+        }
+    }
+}
+
+impl<C: Chunk> ChunkedSeries<C> {
+    // The time of the last sample, if the series ignores a sample with this time and value.
+    fn ignored(&self, time: u64, value: Units) -> Option<u64>
+        ensures { result ≡ ignored_after self.now.options (last_of (list_of self.now)) time value }
+    {
+        if self.options.policy != Policy::Last {
+            return None;
+        }
+        let Some(last) = self.last() else {
+            return None;
+        };
+        if is_close(&self.options.ignore, &last, time, value) {
+            Some(last.time)
+        } else {
+            None
+        }
+    }
+}
+
+// Whether a sample is close to the last one: not before it, not too much later, and with a value that differs too
+// little.
+fn is_close(most: &Ignore, last: &Sample, time: u64, value: Units) -> bool
+    ensures { result ≡ is_close most.now last.now time value }
+{
+    if time < last.time {
+        return false;
+    }
+    if time - last.time > most.time {
+        return false;
+    }
+    is_near(most.value, last.value, value)
+}
+
+// Whether two values differ by at most `most`.
+fn is_near(most: Units, old: Units, new: Units) -> bool
+    ensures { result ≡ is_near most old new }
+{
+    (new.get() - old.get()).abs() <= most.get()
 }

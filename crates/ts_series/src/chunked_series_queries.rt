@@ -1,15 +1,15 @@
 // Queries over a series of one kind of chunk.
 ghost use Rattle.std.specs.Prelude.{◌≡◌, ◌≤◌, ◌+◌, ◌*◌, ℕ, suc, nat_lt, nat_le, length};
 ghost use Rattle.ts_spec.specs.Sample.{MAX_TIME, at, at_times, between, first_of, last_of};
-ghost use Rattle.ts_sample.specs.Visit.{visited};
 ghost use Rattle.ts_spec.specs.Valid.{Every};
+ghost use Rattle.ts_sample.specs.Visit.{visited};
 ghost use Rattle.ts_sample.specs.Steps.{Takes};
 ghost use Rattle.ts_series.specs.History.{list_of, reach, IsKeptIn};
 ghost use Rattle.ts_series.specs.Seams.{IsSeamed, Around};
 
 use crate::chunked_series::ChunkedSeries;
-use crate::chunked_series_cursor::ChunkedSeriesCursor;
 use crate::chunks::new_limit;
+use crate::cursor::ChunkedSeriesCursor;
 use std::sync::ledger::Ledger;
 use ts_sample::{Chunk, Sample, Steps, Visit};
 

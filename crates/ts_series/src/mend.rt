@@ -1,4 +1,4 @@
-// Replaces an interval's samples with rows. Rules update their destinations this way.
+// Replaces an interval's samples with rows, or deletes them. Rules update their destinations this way.
 ghost use Rattle.std.specs.Prelude.{◌≡◌, ◌*◌, nat_lt, nat_le, length, IfOk};
 ghost use Rattle.ts_spec.specs.Sample.{IsAscending, at_times, between, outside, put_all};
 ghost use Rattle.ts_spec.specs.StoredUpdates.{high_after_rows};
@@ -6,14 +6,13 @@ ghost use Rattle.ts_sample.specs.Chunk.{joined};
 ghost use Rattle.ts_sample.specs.Steps.{Takes};
 ghost use Rattle.ts_series.specs.Stored.{points, pieces_after, IsReady, HasLimits};
 ghost use Rattle.ts_series.specs.History.{list_of, limit_for, reach};
-ghost use Rattle.ts_series.specs.Plan.{AreWithin, AreMade, IsForIn, after};
+ghost use Rattle.ts_series.specs.Plan.{AreWithin, AreMade, IsForIn, after, Cuts};
 ghost use Rattle.ts_series.specs.Mend.{IsUpdateAnswer, IsRowPast, list_after_update};
 
 use crate::change::Change;
-use crate::chunked_series::ChunkedSeries;
+use crate::chunked_series::{ChunkedSeries, edge_at, high_after};
 use crate::chunked_series_plan::{ChunkedSeriesPlan, Interval, Rows};
 use crate::chunks::new_limit;
-use crate::edge::{edge_at, high_after};
 use crate::plan::PutFault;
 use std::alloc::AllocError;
 use std::sync::ledger::Ledger;
@@ -135,5 +134,34 @@ impl<C: Chunk> ChunkedSeries<C> {
             return all - self.chunks.count_before(edge, steps);
         }
         all - removed - self.chunks.count_before(from.min(edge), steps)
+    }
+}
+
+impl<C: Chunk> ChunkedSeries<C> {
+    // Plans the deletion of the samples from `from` to `to`, in milliseconds, both inclusive. The interval is empty
+    // if `from` is above `to`. The retention edge does not move.
+    pub(crate) fn cut<L: Ledger>(
+        &self,
+        from: u64,
+        to: u64,
+        steps: &mut Steps<L>,
+    ) -> Result<ChunkedSeriesPlan<C>, AllocError>
+        ensures planned { IfOk result (λ plan. IsForIn C.format plan self.now) }
+        ensures cut { IfOk result (Cuts from to (length (between from to (list_of self.now)))) }
+        ensures steps { Takes steps.old steps.new (3 * reach self.now) }
+    {
+        let (change, removed) = self
+            .chunks
+            .without(self.alloc, from.max(self.edge()), to, steps)?;
+        let larger = self.chunks.larger(&change, self.alloc)?;
+        Ok(ChunkedSeriesPlan {
+            cut: Some(Interval { from, to }),
+            removed: removed as u64,
+            encoding: self.options.encoding,
+            wrote: Rows::Empty,
+            options: None,
+            change,
+            larger,
+        })
     }
 }

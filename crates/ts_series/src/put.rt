@@ -9,10 +9,9 @@ ghost use Rattle.ts_series.specs.Plan.{IsForIn};
 ghost use Rattle.ts_series.specs.Put.{met, PutAnswers, IsWrite, Writes, Fits, list_after};
 
 use crate::change::Change;
-use crate::chunked_series::ChunkedSeries;
+use crate::chunked_series::{ChunkedSeries, edge_at, raise};
 use crate::chunked_series_plan::{ChunkedSeriesPlan, Rows};
 use crate::chunks::new_limit;
-use crate::edge::{edge_at, raise};
 use crate::plan::PutFault;
 use std::alloc::AllocError;
 use std::sync::ledger::Ledger;

@@ -2,7 +2,7 @@ use Rattle.std.proofs.Common.{◌/◌, length}
 use Rattle.ts_sample.proofs.Lists.{ascending-take}
 use Rattle.ts_series.proofs.FilledChunks.{rest-rises, halves-list, halves-limits}
 use Rattle.ts_series.proofs.PlannedPieces.{both-chunks}
-use Rattle.ts_series.proofs.filled.chunks_of.Goals as goal
+use Rattle.ts_series.proofs.updated_list.chunks_of.Goals as goal
 
 pub filled-requires-2-clause-ascending : goal.filled-requires-2-clause-ascending
 filled-requires-2-clause-ascending g c = ascending-take (length c.args.samples.now / 2) c.args.samples.now c.requires.ascending

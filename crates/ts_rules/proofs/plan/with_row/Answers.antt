@@ -4,7 +4,7 @@ use Rattle.ts_rules.specs.Rules.{one_of}
 use Rattle.ts_rules.specs.Plans.{IsUpdate}
 use Rattle.ts_rules.proofs.Mended.{stays, mending-row}
 use Rattle.ts_rules.specs.Shares.{IsPastAll}
-use Rattle.ts_rules.proofs.dest_update.with_row.Goals as goal
+use Rattle.ts_rules.proofs.plan.with_row.Goals as goal
 
 pub returns-in-None-clause-updated_list : goal.returns-in-None-clause-updated_list
 returns-in-None-clause-updated_list g c = stays c.args.limit (λ t. false) (one_of c.args.row) c.args.dest.now c.known.ensures.kept c.requires.fits (ap one_of c.in-None.is) (λ t. refl)

@@ -1,7 +1,7 @@
 use Rattle.std.proofs.Common.{◌≡◌, ◌≤◌, ◌-◌, length, take, map}
 use Rattle.ts_sample.specs.Chunk.{HaveLimit, joined}
 use Rattle.ts_series.specs.Stored.{AreChunks}
-use Rattle.ts_series.proofs.filled.filled.Given as goal
+use Rattle.ts_series.proofs.updated_list.filled.Given as goal
 
 -- so many samples are in the chunks
 abbrev pub invariant-loop-first : goal.invariant-loop-first

@@ -3,7 +3,7 @@ use Rattle.ts_spec.specs.Sample.{between, is_within}
 use Rattle.ts_spec.proofs.Samples.{ascending-times}
 use Rattle.ts_series.specs.History.{list_of}
 use Rattle.ts_rules.proofs.LostBucketList.{lost-rising, lost-listed}
-use Rattle.ts_rules.proofs.lost_buckets.LostBuckets.starts.Goals as goal
+use Rattle.ts_rules.proofs.deletion_buffers.LostBuckets.starts.Goals as goal
 
 pub returns-clause-rising : goal.returns-clause-rising
 returns-clause-rising g c =

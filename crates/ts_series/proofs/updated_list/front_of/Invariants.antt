@@ -1,5 +1,5 @@
 use Rattle.std.proofs.Common.{◌≡◌, ◌∷◌, take}
-use Rattle.ts_series.proofs.filled.front_of.Given as goal
+use Rattle.ts_series.proofs.updated_list.front_of.Given as goal
 
 -- it has the first sample and those so far
 abbrev pub invariant-loop-sample : goal.invariant-loop-sample

@@ -2,7 +2,7 @@ use Rattle.std.proofs.Common.{suc, ◌∷◌, List, sym, subst, arith}
 use Rattle.ts_spec.specs.Sample.{Point, last_of}
 use Rattle.ts_sample.specs.Chunk.{IsPast}
 use Rattle.ts_sample.proofs.Fitting.{past-taken}
-use Rattle.ts_series.proofs.filled.front_of.Goals as goal
+use Rattle.ts_series.proofs.updated_list.front_of.Goals as goal
 
 pub try_append-requires : goal.try_append-requires
 try_append-requires g c =

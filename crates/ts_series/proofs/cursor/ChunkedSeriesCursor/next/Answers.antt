@@ -3,7 +3,7 @@ use Rattle.std.specs.Prelude.{is_some}
 use Rattle.std.proofs.lemmas.List.{length-take, length-drop}
 use Rattle.ts_spec.specs.Sample.{first_of}
 use Rattle.ts_series.proofs.ReadingOn.{some-first, none-first, first-left, left-on, next-piece, nothing-at}
-use Rattle.ts_series.proofs.chunked_series_cursor.ChunkedSeriesCursor.next.Goals as goal
+use Rattle.ts_series.proofs.cursor.ChunkedSeriesCursor.next.Goals as goal
 
 pub read_at-next-requires : goal.read_at-next-requires
 read_at-next-requires g c = c.self.invariant.place

@@ -2,7 +2,7 @@ use Rattle.std.proofs.Common.{◌≡◌, ◌∷◌, ◌+◌, take, drop, sym, �
 use Rattle.std.proofs.lemmas.List.{take_rest}
 use Rattle.ts_spec.specs.Sample.{IsAscending}
 use Rattle.ts_series.proofs.FilledChunks.{rest-rises, filled-within, filled-list, filled-chunks, filled-limits}
-use Rattle.ts_series.proofs.filled.filled.Goals as goal
+use Rattle.ts_series.proofs.updated_list.filled.Goals as goal
 
 pub front_of-requires-clause-ascending : goal.front_of-requires-clause-ascending
 front_of-requires-clause-ascending g c =

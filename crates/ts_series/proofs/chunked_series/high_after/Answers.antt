@@ -3,7 +3,7 @@ use Rattle.ts_spec.specs.Sample.{Point}
 use Rattle.ts_spec.specs.Rules.{raised}
 use Rattle.ts_series.proofs.Mending.{high-last}
 use Rattle.ts_series.proofs.Placing.{last-get}
-use Rattle.ts_series.proofs.edge.high_after.Goals as goal
+use Rattle.ts_series.proofs.chunked_series.high_after.Goals as goal
 
 pub returns-in-Some : goal.returns-in-Some
 returns-in-Some c =
