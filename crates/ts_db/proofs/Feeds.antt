@@ -13,7 +13,7 @@ use Rattle.ts_series.specs.Plan.{Plan}
 use Rattle.ts_rules.specs.declared.rule.Rule.{Rule}
 use Rattle.ts_rules.specs.Rules.{stored_rule_for}
 use Rattle.ts_rules.specs.Plans.{IsUpdatedBy, after_plan}
-use Rattle.ts_db.specs.declared.planning.DestinationPlan.{DestinationPlan}
+use Rattle.ts_db.specs.declared.store.DestinationPlan.{DestinationPlan}
 use Rattle.ts_db.specs.declared.node.Node.{Node}
 use Rattle.ts_db.specs.declared.store.Store.{Store}
 use Rattle.ts_db.specs.Store.{rules_by, key_at, key_in, stored_node, db_view_of, contents_of, Contents, Nodes, IsInOrder, Holds}

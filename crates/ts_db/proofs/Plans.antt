@@ -8,7 +8,7 @@ use Rattle.ts_spec.specs.StoredUpdates.{updated_series}
 use Rattle.ts_rules.specs.declared.rule.Rule.{Rule}
 use Rattle.ts_rules.specs.Rules.{IsChanged}
 use Rattle.ts_rules.specs.Plans.{list_after_update}
-use Rattle.ts_db.specs.declared.planning.DestinationPlan.{DestinationPlan}
+use Rattle.ts_db.specs.declared.store.DestinationPlan.{DestinationPlan}
 use Rattle.ts_db.specs.declared.node.Node.{Node}
 use Rattle.ts_db.specs.Store.{Nodes, stored_node}
 use Rattle.ts_db.specs.DestinationUpdates.{Rows, RemovedTimes}

@@ -16,7 +16,7 @@ use Rattle.ts_rules.specs.declared.rule.Rule.{Rule}
 use Rattle.ts_rules.specs.Rules.{stored_rule_for}
 use Rattle.ts_rules.specs.Plans.{list_after_update, IsUpdatedBy}
 use Rattle.ts_rules.proofs.Mended.{unmended}
-use Rattle.ts_db.specs.declared.planning.DestinationPlan.{DestinationPlan}
+use Rattle.ts_db.specs.declared.store.DestinationPlan.{DestinationPlan}
 use Rattle.ts_db.specs.declared.node.Node.{Node}
 use Rattle.ts_db.specs.declared.store.Store.{Store}
 use Rattle.ts_db.specs.declared.planning.SourceChange.TheVariants.{Write}

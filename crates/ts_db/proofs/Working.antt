@@ -9,7 +9,7 @@ use Rattle.ts_bucket.specs.Grid.{IsGrid}
 use Rattle.ts_series.specs.History.{History}
 use Rattle.ts_rules.specs.declared.rule.Rule.{Rule}
 use Rattle.ts_rules.specs.Rules.{stored_rule_for}
-use Rattle.ts_db.specs.declared.planning.DestinationPlan.{DestinationPlan}
+use Rattle.ts_db.specs.declared.store.DestinationPlan.{DestinationPlan}
 use Rattle.ts_db.specs.declared.fault.DbFault.{DbFault}
 use Rattle.ts_db.specs.declared.node.Node.{Node}
 use Rattle.ts_db.specs.declared.store.Store.{Store}

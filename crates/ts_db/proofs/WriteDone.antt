@@ -17,7 +17,7 @@ use Rattle.ts_sample.specs.declared.sample.Id.{Id}
 use Rattle.ts_series.specs.Plan.{Plan, IsFor}
 use Rattle.ts_series.specs.Put.{met, sample_of}
 use Rattle.ts_rules.specs.declared.rule.Rule.{Rule}
-use Rattle.ts_db.specs.declared.planning.DestinationPlan.{DestinationPlan}
+use Rattle.ts_db.specs.declared.store.DestinationPlan.{DestinationPlan}
 use Rattle.ts_db.specs.declared.node.Node.{Node}
 use Rattle.ts_db.specs.declared.store.Store.{Store}
 use Rattle.ts_db.specs.declared.planning.SourceChange.{SourceChange}

@@ -20,8 +20,8 @@ use Rattle.ts_rules.specs.Plans.{IsUpdatedBy}
 use Rattle.ts_db.specs.declared.fault.DbFault.{DbFault}
 use Rattle.ts_db.specs.declared.fault.DbFault.TheVariants.{SamplesFull, Memory}
 use Rattle.ts_db.specs.declared.node.Node.{Node}
-use Rattle.ts_db.specs.declared.planning.DestinationPlan.{DestinationPlan}
-use Rattle.ts_db.specs.declared.planning.Planned.{Planned}
+use Rattle.ts_db.specs.declared.store.DestinationPlan.{DestinationPlan}
+use Rattle.ts_db.specs.declared.store.Planned.{Planned}
 use Rattle.ts_db.specs.declared.store.Store.{Store}
 use Rattle.ts_db.specs.declared.planning.SourceChange.{SourceChange}
 use Rattle.ts_db.specs.declared.planning.SourceChange.TheVariants.{Write, Delete}

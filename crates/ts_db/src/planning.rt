@@ -1,5 +1,5 @@
 // Plans the effects of a change on all rules of a source before anything is changed.
-ghost use Rattle.std.specs.Prelude.{◌≡◌, ◌≤◌, ◌+◌, ◌++◌, [], ◌∷◌, ℕ, suc, None, length, vec_len, IfOk, IfErr};
+ghost use Rattle.std.specs.Prelude.{◌≡◌, ◌≤◌, [], ◌∷◌, None, length, IfOk, IfErr};
 ghost use Rattle.ts_sample.specs.Steps.{Takes};
 ghost use Rattle.slab.specs.Slab as slab;
 ghost use Rattle.ts_series.specs.History.{list_of};
@@ -10,18 +10,17 @@ ghost use Rattle.ts_db.specs.Planning.{changed_by, gone_by, rows_by_change, HasC
 ghost use Rattle.ts_db.specs.Planning.{IsSharedOf, AreChanged};
 ghost use Rattle.ts_db.specs.Planning.{for_destination, IsDestinationUpdatedBy, AreDestinationsUpdatedBy, first_full};
 ghost use Rattle.ts_db.specs.Planning.{IsRulePlanFault, IsPlanFault};
-ghost use Rattle.ts_db.specs.Planning.{share_of, share_at, shares_of, HasCapacityForRules, IsEasyOf, IsEasyAt};
+ghost use Rattle.ts_db.specs.Planning.{share_of, share_at, shares_of, IsEasyOf, IsEasyAt};
 ghost use Rattle.ts_db.specs.Planning.{AreEasyOf};
 ghost use Rattle.ts_db.specs.Store.{IsInOrder, HasNode, AreLive};
 
 use crate::fault::DbFault;
 use crate::plan_fault::full_at;
-use crate::store::Store;
-use std::alloc::{AllocError, Global};
+use crate::store::{Planned, Store};
 use std::sync::ledger::Ledger;
 use ts_rules::{Rule, RuleFault, RulePlan, SharedBucket, plan_delete, plan_put_shared};
-use ts_sample::{Id, Sample, Steps};
-use ts_series::{Series, SeriesPlan};
+use ts_sample::{Sample, Steps};
+use ts_series::Series;
 
 // A change of a source's samples: one sample written, or all samples from one time to another deleted (both
 // inclusive).
@@ -29,51 +28,6 @@ use ts_series::{Series, SeriesPlan};
 pub(crate) enum SourceChange {
     Write(Sample),
     Delete(u64, u64),
-}
-
-// The planned change of one destination; `None` if it does not change.
-#[derive(Drop)]
-pub(crate) struct DestinationPlan {
-    pub(crate) dest: Id,
-    pub(crate) change: Option<SeriesPlan>,
-}
-
-// The rules of a source after the change, and the plans for their destinations.
-#[derive(Drop)]
-pub(crate) struct Planned {
-    pub(crate) rules: Vec<Rule>,
-    pub(crate) plans: Vec<DestinationPlan>,
-}
-
-impl Planned {
-    // No plans yet, with capacity for `count` rules.
-    fn with_reserved(alloc: Global, count: usize) -> Result<Planned, AllocError>
-        ensures rules { IfOk result (λ planned. planned.rules.items ≡ []) }
-        ensures plans { IfOk result (λ planned. planned.plans.items ≡ []) }
-        ensures none { IfOk result (λ planned. vec_len planned.plans ≡ 0) }
-        ensures room { IfOk result (HasCapacityForRules count) }
-    {
-        Ok(Planned {
-            rules: Vec::with_capacity(alloc, count)?,
-            plans: Vec::with_capacity(alloc, count)?,
-        })
-    }
-
-    // Adds the plan for one more rule.
-    fn push(&mut self, plan: RulePlan)
-        requires room { HasCapacityForRules 1 self.old }
-        ensures rules { self.new.rules.items ≡ self.old.rules.items ++ plan.rule ∷ [] }
-        ensures plans { self.new.plans.items ≡ self.old.plans.items ++ for_destination plan ∷ [] }
-        ensures one { vec_len self.new.plans ≡ vec_len self.old.plans + 1 }
-        ensures room { (n : ℕ) → HasCapacityForRules (suc n) self.old → HasCapacityForRules n self.new }
-    {
-        let RulePlan { rule, dest } = plan;
-        self.plans.push_reserved(DestinationPlan {
-            dest: rule.dest,
-            change: dest,
-        });
-        self.rules.push_reserved(rule);
-    }
 }
 
 impl Store {
@@ -188,46 +142,49 @@ impl Store {
             (slab.get self.now.nodes rule.now.dest.0) → steps.new ≡ steps.old }
     {
         let dest = self.nodes.node(rule.dest);
-        made_plan(
-            self.alloc,
-            work,
-            rule,
-            source,
-            &dest.series,
-            self.limits.samples,
-            shared,
-            steps,
-        )
+        self.made_plan(work, rule, source, &dest.series, shared, steps)
     }
-}
 
-// Plans the effects of a change on one rule and its destination.
-fn made_plan<L: Ledger>(
-    alloc: Global,
-    work: SourceChange,
-    rule: &Rule,
-    source: &Series,
-    dest: &Series,
-    limit: u32,
-    shared: &mut SharedBucket,
-    steps: &mut Steps<L>,
-) -> Result<RulePlan, RuleFault>
-    requires room { HasCountCapacity work source.now rule.now }
-    requires fits { length (list_of dest.now) ≤ limit }
-    requires shared { IsSharedOf work source.now shared.old }
-    ensures planned { (k : Key) → IsPlannedSo limit (changed_by work source.now)
-        (gone_by work source.now (stored_rule_for k rule.now))
-        (rows_by_change work source.now dest.now.born (stored_rule_for k rule.now)) rule.now dest.now result }
-    ensures shared { IsSharedOf work source.now shared.new }
-    ensures steps { Takes steps.old steps.new (share_of work source.now rule.now dest.now) }
-    ensures easy { IsEasyOf limit work source.now rule.now dest.now → steps.new ≡ steps.old }
-{
-    match work {
-        SourceChange::Write(wrote) => plan_put_shared(
-            rule, source, &wrote, dest, limit, shared, steps,
-        ),
-        SourceChange::Delete(from, to) => plan_delete(
-            alloc, rule, source, from, to, dest, limit, steps,
-        ),
+    // Plans the effects of a change on one rule and its destination.
+    fn made_plan<L: Ledger>(
+        &self,
+        work: SourceChange,
+        rule: &Rule,
+        source: &Series,
+        dest: &Series,
+        shared: &mut SharedBucket,
+        steps: &mut Steps<L>,
+    ) -> Result<RulePlan, RuleFault>
+        requires room { HasCountCapacity work source.now rule.now }
+        requires fits { length (list_of dest.now) ≤ self.now.limits.samples }
+        requires shared { IsSharedOf work source.now shared.old }
+        ensures planned { (k : Key) → IsPlannedSo self.now.limits.samples (changed_by work source.now)
+            (gone_by work source.now (stored_rule_for k rule.now))
+            (rows_by_change work source.now dest.now.born (stored_rule_for k rule.now)) rule.now dest.now result }
+        ensures shared { IsSharedOf work source.now shared.new }
+        ensures steps { Takes steps.old steps.new (share_of work source.now rule.now dest.now) }
+        ensures easy { IsEasyOf self.now.limits.samples work source.now rule.now dest.now → steps.new ≡ steps.old }
+    {
+        match work {
+            SourceChange::Write(wrote) => plan_put_shared(
+                rule,
+                source,
+                &wrote,
+                dest,
+                self.limits.samples,
+                shared,
+                steps,
+            ),
+            SourceChange::Delete(from, to) => plan_delete(
+                self.alloc,
+                rule,
+                source,
+                from,
+                to,
+                dest,
+                self.limits.samples,
+                steps,
+            ),
+        }
     }
 }

@@ -1,5 +1,5 @@
-// Stores series by id and ids by key, and commits plans.
-ghost use Rattle.std.specs.Prelude.{◌≡◌, nat_lt, nat_le, length, is_some, None, Some, List};
+// Stores series by id and ids by key, and commits the plans of a change.
+ghost use Rattle.std.specs.Prelude.{◌≡◌, ◌+◌, ◌++◌, [], ◌∷◌, ℕ, suc, nat_lt, nat_le, length, vec_len, is_some, None, Some, List, IfOk};
 ghost use Rattle.std.specs.Cmp.Lexicographic.{slice_cmp};
 ghost use Rattle.std.specs.List.{All};
 ghost use Rattle.std.specs.List.Sorted.{IsStrictlySortedBy};
@@ -13,19 +13,63 @@ ghost use Rattle.ts_db.specs.Answering.{IsReady, IsApplied, IsElsewhere};
 ghost use Rattle.ts_rules.specs.declared.rule.Rule.{Rule as TheRule};
 ghost use Rattle.ts_db.specs.DestinationUpdates.{Rows, RemovedTimes};
 ghost use Rattle.ts_db.specs.Planning.{AreDestinationsUpdatedBy, AreDistinct, AreDestinationPlans};
-ghost use Rattle.ts_db.specs.Planning.{AreDestinationsUpdated};
+ghost use Rattle.ts_db.specs.Planning.{AreDestinationsUpdated, HasCapacityForRules, for_destination};
 
 use crate::nodes::Nodes;
-use crate::planning::DestinationPlan;
-use std::alloc::Global;
+use std::alloc::{AllocError, Global};
 use std::collections::BTreeMap;
 use ts_index::Index;
 use ts_labels::Labels;
 use ts_resp::Word;
-use ts_rules::Rule;
+use ts_rules::{Rule, RulePlan};
 use ts_sample::Id;
 use ts_series::SeriesPlan;
 use ts_spec::Limits;
+
+// The planned change of one destination; `None` if it does not change.
+#[derive(Drop)]
+pub(crate) struct DestinationPlan {
+    pub(crate) dest: Id,
+    pub(crate) change: Option<SeriesPlan>,
+}
+
+// The rules of a source after the change, and the plans for their destinations.
+#[derive(Drop)]
+pub(crate) struct Planned {
+    pub(crate) rules: Vec<Rule>,
+    pub(crate) plans: Vec<DestinationPlan>,
+}
+
+impl Planned {
+    // No plans yet, with capacity for `count` rules.
+    pub(crate) fn with_reserved(alloc: Global, count: usize) -> Result<Planned, AllocError>
+        ensures rules { IfOk result (λ planned. planned.rules.items ≡ []) }
+        ensures plans { IfOk result (λ planned. planned.plans.items ≡ []) }
+        ensures none { IfOk result (λ planned. vec_len planned.plans ≡ 0) }
+        ensures room { IfOk result (HasCapacityForRules count) }
+    {
+        Ok(Planned {
+            rules: Vec::with_capacity(alloc, count)?,
+            plans: Vec::with_capacity(alloc, count)?,
+        })
+    }
+
+    // Adds the plan for one more rule.
+    pub(crate) fn push(&mut self, plan: RulePlan)
+        requires room { HasCapacityForRules 1 self.old }
+        ensures rules { self.new.rules.items ≡ self.old.rules.items ++ plan.rule ∷ [] }
+        ensures plans { self.new.plans.items ≡ self.old.plans.items ++ for_destination plan ∷ [] }
+        ensures one { vec_len self.new.plans ≡ vec_len self.old.plans + 1 }
+        ensures room { (n : ℕ) → HasCapacityForRules (suc n) self.old → HasCapacityForRules n self.new }
+    {
+        let RulePlan { rule, dest } = plan;
+        self.plans.push_reserved(DestinationPlan {
+            dest: rule.dest,
+            change: dest,
+        });
+        self.rules.push_reserved(rule);
+    }
+}
 
 // Series by id, and ids by key.
 #[derive(Drop)]

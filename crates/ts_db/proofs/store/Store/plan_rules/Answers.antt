@@ -3,7 +3,7 @@ use Rattle.std.proofs.lemmas.List.{take_more, drop_more, take_all, length-drop}
 use Rattle.std.specs.Prelude.{Option, None}
 use Rattle.ts_sample.specs.declared.sample.Id.{Id}
 use Rattle.ts_rules.specs.declared.rule.Rule.{Rule}
-use Rattle.ts_db.specs.declared.planning.DestinationPlan.{DestinationPlan}
+use Rattle.ts_db.specs.declared.store.DestinationPlan.{DestinationPlan}
 use Rattle.ts_db.specs.Store.{AreLive}
 use Rattle.ts_db.specs.Planning.{changed_by, gone_by, rows_by_change, AllHaveCountCapacity, AreChanged, AreDestinationsUpdatedBy, first_full, IsRulePlanFault, IsPlanFault, shares_of, AreEasyOf, HasCapacityForRules}
 use Rattle.ts_db.proofs.Plans.{full-past, update_dest-more, changed-more}

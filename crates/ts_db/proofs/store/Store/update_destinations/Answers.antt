@@ -1,6 +1,6 @@
 use Rattle.std.proofs.Common.{◌≡◌, List, [], ◌∷◌, refl, sym, subst, rules, arith}
 use Rattle.std.specs.Vec.Iter.{into_iter_items}
-use Rattle.ts_db.specs.declared.planning.DestinationPlan.{DestinationPlan}
+use Rattle.ts_db.specs.declared.store.DestinationPlan.{DestinationPlan}
 use Rattle.ts_db.specs.Planning.{AreDestinationsUpdatedBy}
 use Rattle.ts_db.proofs.Feeds.{Feeding, update_dest-ready, update_dest-done, update_dest-none, update_dest-all, no-plans}
 use Rattle.ts_db.proofs.store.Store.update_destinations.Goals as goal
