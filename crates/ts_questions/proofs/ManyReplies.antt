@@ -19,8 +19,8 @@ use Rattle.ts_spec.proofs.StoredAsked.{ranges-kept, last_members-kept, selection
 use Rattle.ts_labels.specs.Show.{show_of}
 use Rattle.ts_range.specs.Query.{query_of}
 use Rattle.ts_db.specs.DbState.{DbState, DbView, Represents, AllowsOutOfMemory}
-use Rattle.ts_questions.specs.declared.member_content.MemberContent.{MemberContent}
-use Rattle.ts_questions.specs.declared.member_content.MemberContent.TheVariants as wanted
+use Rattle.ts_questions.specs.declared.members.MemberContent.{MemberContent}
+use Rattle.ts_questions.specs.declared.members.MemberContent.TheVariants as wanted
 use Rattle.ts_questions.specs.Answering.{IsReplyText, IsManyText}
 use Rattle.ts_questions.specs.Members.{rows_at, reply_at, is_over_limit_at, reply_then, each_reply, AreAddedOrLost, stored_many, many_response}
 

@@ -7,8 +7,8 @@ use Rattle.ts_spec.specs.Keyed.{get}
 use Rattle.ts_spec.specs.StoredQueries.{stored_labels_at, stored_selection}
 use Rattle.ts_db.specs.Bounds.{walk_steps, selection_steps}
 use Rattle.ts_db.specs.DbState.{DbView, reach_at}
-use Rattle.ts_questions.specs.declared.member_content.MemberContent.{MemberContent}
-use Rattle.ts_questions.specs.declared.member_content.MemberContent.TheVariants as wanted
+use Rattle.ts_questions.specs.declared.members.MemberContent.{MemberContent}
+use Rattle.ts_questions.specs.declared.members.MemberContent.TheVariants as wanted
 
 -- over one series: the samples in the interval, and five times those of a chunk
 abbrev pub series_query_steps : DbView → Key → (from to : ℕ) → ℕ

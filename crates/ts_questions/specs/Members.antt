@@ -21,8 +21,8 @@ use Rattle.ts_range.specs.Query.{query_of}
 use Rattle.ts_range.specs.declared.query.RangeFault.{RangeFault}
 use Rattle.ts_range.specs.declared.query.RangeFault.TheVariants.{EmptyRows, Memory}
 use Rattle.ts_db.specs.DbState.{DbState, DbView}
-use Rattle.ts_questions.specs.declared.member_content.MemberContent.{MemberContent}
-use Rattle.ts_questions.specs.declared.member_content.MemberContent.TheVariants as wanted
+use Rattle.ts_questions.specs.declared.members.MemberContent.{MemberContent}
+use Rattle.ts_questions.specs.declared.members.MemberContent.TheVariants as wanted
 
 -- the result of a call that can only fail for lack of memory
 abbrev pub in_memory : Result (Unit {0}) AllocError → Result (Unit {0}) RangeFault

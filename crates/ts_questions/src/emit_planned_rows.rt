@@ -9,8 +9,7 @@ ghost use Rattle.ts_questions.specs.Asking.{IsRowPlan};
 
 use crate::few_samples::{emit_few, narrowed_to, small_count};
 use crate::gap_filled::emit_gap_filled;
-use crate::last_rows::{last_rows, rows_between};
-use crate::reversed_samples::{emit_rows, emit_samples_reversed};
+use crate::reversed_samples::{emit_rows, emit_samples_reversed, last_rows, rows_between};
 use crate::row_plans::RowPlan;
 use crate::series_query::SeriesQuery;
 use crate::walked::emitted;

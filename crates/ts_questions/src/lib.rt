@@ -9,9 +9,7 @@ mod gap_filled;
 mod gathering;
 mod group_query;
 mod grouped;
-mod last_rows;
 mod member;
-mod member_content;
 mod members;
 mod multi_reply;
 mod query_replies;
@@ -22,6 +20,5 @@ mod series_query;
 mod walked;
 
 pub use faults::{refusal_reply, write_or_out_of_memory, write_out_of_memory};
-pub use member_content::MemberContent;
-pub use members::write_members;
+pub use members::{MemberContent, write_members};
 pub use query_replies::{write_get, write_range, write_ranges};

@@ -20,7 +20,7 @@ ghost use Rattle.ts_questions.specs.Bounds.{series_query_steps, content_steps};
 ghost use Rattle.ts_questions.specs.Members.{reply_at, rows_at, AreAsAsked, IsAdded, in_memory, is_too_many};
 
 use crate::emit_planned_rows::{emit_planned_rows, reversed_rows};
-use crate::member_content::MemberContent;
+use crate::members::MemberContent;
 use crate::row_plans::{RowPlan, has_too_many_rows, row_plan};
 use crate::series_query::SeriesQuery;
 use std::alloc::AllocError;

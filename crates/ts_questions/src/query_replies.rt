@@ -8,23 +8,22 @@ ghost use Rattle.ts_spec.specs.Queries.{range_response, rows_response, last_resp
 ghost use Rattle.ts_spec.specs.Replies.{reply_to};
 ghost use Rattle.ts_spec.specs.Response.{Rows, LastRow};
 ghost use Rattle.ts_spec.specs.Text.{text};
+ghost use Rattle.ts_spec.specs.Filter.{selection};
+ghost use Rattle.ts_spec.specs.Groups.{ranges_response};
+ghost use Rattle.ts_labels.specs.Show.{show_of};
 ghost use Rattle.ts_range.specs.Query.{query_of};
+ghost use Rattle.ts_command.specs.GroupBy.{group_of};
 ghost use Rattle.ts_series.specs.Seams.{IsSeamed};
 ghost use Rattle.ts_db.specs.DbState.{DbState, Represents, IsLive};
 ghost use Rattle.ts_questions.specs.Answering.{IsReplyText};
 ghost use Rattle.ts_questions.specs.Asking.{queried_key, queried_samples, queried_pieces, queried_rows, queried_answer};
 ghost use Rattle.ts_questions.specs.Asking.{steps_beside, IsRowPlan};
 ghost use Rattle.ts_questions.specs.Bounds.{series_query_steps, members_steps};
-ghost use Rattle.ts_spec.specs.Filter.{selection};
-ghost use Rattle.ts_spec.specs.Groups.{ranges_response};
-ghost use Rattle.ts_labels.specs.Show.{show_of};
-ghost use Rattle.ts_command.specs.GroupBy.{group_of};
 
 use crate::emit_planned_rows::emit_planned_rows;
 use crate::faults::{refusal_reply, too_many_rows, write_out_of_memory, write_row_error};
 use crate::group_query::GroupQuery;
-use crate::member_content::MemberContent;
-use crate::members::write_members;
+use crate::members::{MemberContent, write_members};
 use crate::multi_reply::write_many;
 use crate::row_plans::{RowPlan, has_too_many_rows, row_plan};
 use crate::row_texts::{FIRST_ROOM, RowTexts};

@@ -6,8 +6,8 @@ use Rattle.ts_spec.specs.Groups.{ranges_response}
 use Rattle.ts_command.specs.GroupBy.{group_of}
 use Rattle.ts_questions.specs.Answering.{IsReplyText}
 use Rattle.ts_questions.specs.Members.{many_response}
-use Rattle.ts_questions.specs.declared.member_content.MemberContent.TheVariants.{Last}
-use Rattle.ts_questions.specs.declared.member_content.MemberContent.TheVariants as wanted
+use Rattle.ts_questions.specs.declared.members.MemberContent.TheVariants.{Last}
+use Rattle.ts_questions.specs.declared.members.MemberContent.TheVariants as wanted
 use Rattle.ts_range.specs.Query.{query_of}
 use Rattle.ts_resp.specs.Replies.{reply_of}
 use Rattle.ts_spec.specs.Command.{Create, Alter, Add, Incr, DelRange, CreateRule, DeleteRule, Range, MRange, Get, MGet, QueryIndex, InfoOf, Echo, Quit, Drop, Exists}

@@ -2,7 +2,7 @@ use Rattle.std.proofs.Common.{◌∙◌, arith}
 use Rattle.ts_labels.specs.Show.{show_of}
 use Rattle.ts_range.specs.Query.{query_of}
 use Rattle.ts_questions.proofs.MemberTexts.{rows-refused}
-use Rattle.ts_questions.proofs.member_content.is_refused.Goals as goal
+use Rattle.ts_questions.proofs.members.is_refused.Goals as goal
 
 pub returns-in-Rows-clause-refused : goal.returns-in-Rows-clause-refused
 returns-in-Rows-clause-refused g c =

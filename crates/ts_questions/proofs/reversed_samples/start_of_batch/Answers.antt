@@ -1,7 +1,7 @@
 use Rattle.std.proofs.Common.{max, ◌∙◌, ap, arith}
 use Rattle.ts_spec.proofs.Buckets.{start-le}
 use Rattle.ts_questions.proofs.RowsSplit.{begins-at}
-use Rattle.ts_questions.proofs.last_rows.start_of_batch.Goals as goal
+use Rattle.ts_questions.proofs.reversed_samples.start_of_batch.Goals as goal
 
 pub returns-clause-within : goal.returns-clause-within
 returns-clause-within c =

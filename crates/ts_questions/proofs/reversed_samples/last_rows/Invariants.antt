@@ -3,7 +3,7 @@ use Rattle.ts_range.specs.Query.{row_of}
 use Rattle.ts_questions.specs.Asking.{queried_samples, queried_pieces, queried_reach, rows_in}
 use Rattle.ts_questions.proofs.RowsSplit.{AreFound}
 use Rattle.ts_questions.proofs.WalkBounds.{GoesOn}
-use Rattle.ts_questions.proofs.last_rows.last_rows.Given as goal
+use Rattle.ts_questions.proofs.reversed_samples.last_rows.Given as goal
 
 -- what was found, and what is left, have the rows that are wanted; and no more was decoded than once, and a chunk for each share
 abbrev pub invariant-loop-found : goal.invariant-loop-found

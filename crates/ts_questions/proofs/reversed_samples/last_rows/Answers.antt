@@ -7,7 +7,7 @@ use Rattle.ts_range.specs.Query.{row_of}
 use Rattle.ts_questions.specs.Asking.{queried_samples, queried_pieces, queried_reach, rows_in}
 use Rattle.ts_questions.proofs.RowsSplit.{Begins, in-parts, in-none, found-none, found-more, found-enough, found-all, found-rest}
 use Rattle.ts_questions.proofs.WalkBounds.{goes-first, goes-more, goes-last, goes-none}
-use Rattle.ts_questions.proofs.last_rows.last_rows.Goals as goal
+use Rattle.ts_questions.proofs.reversed_samples.last_rows.Goals as goal
 
 pub loop-found-init : goal.loop-found-init
 loop-found-init g c = record {

@@ -1,6 +1,6 @@
 use Rattle.std.proofs.lemmas.Result.{IfOk-weaker, IfErr-weaker}
 use Rattle.ts_questions.proofs.ManyReplies.{many-few, many-over, many-text}
-use Rattle.ts_questions.proofs.member_content.MemberContentMultiReply.put_all.Goals as goal
+use Rattle.ts_questions.proofs.members.MemberContentMultiReply.put_all.Goals as goal
 
 pub returns-clause-few : goal.returns-clause-few
 returns-clause-few g c =

@@ -5,7 +5,7 @@ use Rattle.ts_spec.specs.Answer.{Row}
 use Rattle.ts_range.specs.Query.{row_of}
 use Rattle.ts_range.proofs.Reversed.{map-take}
 use Rattle.ts_questions.proofs.RowsSplit.{take-back}
-use Rattle.ts_questions.proofs.last_rows.with_earlier.Goals as goal
+use Rattle.ts_questions.proofs.reversed_samples.with_earlier.Goals as goal
 
 pub returns : goal.returns
 returns c =
