@@ -15,13 +15,10 @@ mod group;
 #[cfg(test)]
 mod multi;
 #[cfg(test)]
+mod program;
 #[cfg(test)]
 mod range;
 #[cfg(test)]
 mod resp;
 #[cfg(test)]
 mod sample;
-#[cfg(test)]
-mod words;
-#[cfg(test)]
-mod workload;

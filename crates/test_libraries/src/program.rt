@@ -1,6 +1,7 @@
-// The command line and the lines of the program, by tables.
+// The command line, the lines that the program writes, and the lengths and checksums of generated workloads.
 use std::alloc::AllocError;
 use std::test::Fail;
+use ts_gen::script;
 use ts_words::{LinkEnd, Mode, Status, line, link_line, summary};
 
 // The mode that this command line selects. Its arguments are separated by spaces.
@@ -118,4 +119,39 @@ fn lines_of_connections_and_workloads(rt: HostRuntime) {
         summary(&[21, 1674, 3, 0, u64::MAX, 5], &mut room)
             == b"requests 21\nin 1674\nout 3\nerrors 0\nkeys 18446744073709551615\nsamples 5\n".as_slice()
     );
+}
+
+// A checksum that depends on the order: each byte counts 31 times as much as the next, modulo 2^32.
+fn sum_of(bytes: &[u8]) -> u32 {
+    let mut sum: u32 = 0;
+    for byte in bytes {
+        sum = sum.wrapping_mul(31).wrapping_add(u32::from(*byte));
+    }
+    sum
+}
+
+#[test]
+fn workloads_have_these_lengths_and_sums(rt: HostRuntime) -> Result<(), Fail> {
+    for (seed, n, length, sum) in [
+        (7, 0, 1674, 1336507335),
+        (7, 1, 1749, 2643214372),
+        (1, 1, 1750, 2561800523),
+        (0, 40, 4627, 4075026229),
+        (u64::MAX, 100, 9195, 3791691621),
+        (7, 1000, 77165, 1654673275),
+    ] {
+        let bytes = script(rt.alloc(), seed, n)?;
+        assert!(rt; bytes.len() == length);
+        assert!(rt; sum_of(&bytes) == sum);
+    }
+    Ok(())
+}
+
+#[test]
+fn a_seed_draws_a_deletion(rt: HostRuntime) -> Result<(), Fail> {
+    let bytes = script(rt.alloc(), 10, 1)?;
+    let change = b"*4\r\n$6\r\nTS.DEL\r\n$5\r\nraw:1\r\n$1\r\n0\r\n$4\r\n4000\r\n".as_slice();
+    assert!(rt; bytes.len() == 1674 + change.len());
+    assert!(rt; bytes[1674 - 66..].starts_with(change));
+    Ok(())
 }
