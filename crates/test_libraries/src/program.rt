@@ -71,7 +71,9 @@ fn lines_of_endings(rt: HostRuntime) {
     );
     assert!(rt;
         line(None, Status::Usage, 0, &mut room)
-            == b"usage: tsd pipe | tsd serve <address> <connections> | tsd gen <seed> <n> | tsd keep <file> | tsd host <address> [<file> [sync]] | tsd mux\n".as_slice()
+            == b"usage: tsd pipe | tsd serve <address> <connections> | tsd gen <seed> <n> | tsd keep <file> | \
+                tsd host <address> [<file> [sync]] | tsd mux\n"
+                .as_slice()
     );
     assert!(rt;
         line(Some(Mode::Pipe), Status::Truncated, 5, &mut room)

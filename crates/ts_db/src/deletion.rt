@@ -69,7 +69,10 @@ impl Store {
         requires there { IsThere self.old id }
         ensures deleted { (key : Key) (n : TheNode) → Holds self.old key id n → StoredCount (db_view_of self.old)
             (stored_within_destinations self.old.limits (db_view_of self.old).keys key
-            (record { keys = keys_deleted key from to (db_view_of self.old).keys; response = Count (length (between from to (list_of n.series))) }))
+            (record {
+              keys = keys_deleted key from to (db_view_of self.old).keys;
+              response = Count (length (between from to (list_of n.series)));
+            }))
             result (db_view_of self.new) }
         ensures bounded { IfOk result (λ n. n ≤ MAX_TIME) }
         ensures own { (key : Key) → id_for_key key self.old.keys.entries ≡ Some id
@@ -148,7 +151,10 @@ impl Store {
         requires source { IsLiveSource self.old.nodes source }
         ensures store { IsInOrder self.new }
         ensures ended { contents_of self.new
-            ≡ record (contents_of self.old) { keys = keys_rule_ended (option_map (key_in self.old.nodes) source) (key_in self.old.nodes id) (db_view_of self.old).keys } }
+            ≡ record (contents_of self.old) {
+              keys = keys_rule_ended (option_map (key_in self.old.nodes) source) (key_in self.old.nodes id)
+                  (db_view_of self.old).keys;
+            } }
         ensures names { KeepsNames self.old self.new }
     {
         match source {

@@ -22,7 +22,9 @@ impl Store {
         ensures store { IsInOrder self.new }
         ensures counted_once_more { (key : Key) (n : TheNode) → Holds self.old key id n
             → contents_of self.new
-            ≡ record (contents_of self.old) { keys = with_key key (stored_open_append self.old.nodes plan wrote.now n) (db_view_of self.old).keys } }
+            ≡ record (contents_of self.old) {
+              keys = with_key key (stored_open_append self.old.nodes plan wrote.now n) (db_view_of self.old).keys;
+            } }
         ensures elsewhere { IsElsewhere self.old self.new id }
     {
         self.nodes.append_open(id, plan, wrote);

@@ -163,7 +163,9 @@ impl Store {
         requires live { AreLive self.old.nodes rules.items }
         ensures store { IsInOrder self.new }
         ensures freed { contents_of self.new
-            ≡ record (contents_of self.old) { keys = keys_unlinked (rules_by (key_in self.old.nodes) rules.items) (db_view_of self.old).keys } }
+            ≡ record (contents_of self.old) {
+              keys = keys_unlinked (rules_by (key_in self.old.nodes) rules.items) (db_view_of self.old).keys;
+            } }
     {
         for rule in rules {
             self.set_source(rule.dest, None);

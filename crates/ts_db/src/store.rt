@@ -1,5 +1,6 @@
 // Stores series by id and ids by key, and commits the plans of a change.
-ghost use Rattle.std.specs.Prelude.{◌≡◌, ◌+◌, ◌++◌, [], ◌∷◌, ℕ, suc, nat_lt, nat_le, length, vec_len, is_some, None, Some, List, IfOk};
+ghost use Rattle.std.specs.Prelude.{◌≡◌, ◌+◌, ◌++◌, [], ◌∷◌, ℕ, suc, nat_lt, nat_le, length, vec_len, is_some, None};
+ghost use Rattle.std.specs.Prelude.{Some, List, IfOk};
 ghost use Rattle.std.specs.Cmp.Lexicographic.{slice_cmp};
 ghost use Rattle.std.specs.List.{All};
 ghost use Rattle.std.specs.List.Sorted.{IsStrictlySortedBy};
@@ -7,10 +8,10 @@ ghost use Rattle.std.specs.Map.{keys_of};
 ghost use Rattle.std.specs.Ordering.{nat_cmp};
 ghost use Rattle.ts_spec.specs.Keyed.{get, count_keys};
 ghost use Rattle.ts_index.specs.Numbers.{AreInOrder};
+ghost use Rattle.ts_rules.specs.declared.rule.Rule.{Rule as TheRule};
 ghost use Rattle.ts_db.specs.Indexed.{IsIndexed};
 ghost use Rattle.ts_db.specs.Store.{db_view_of, id_for_key, IsInOrder};
 ghost use Rattle.ts_db.specs.Answering.{IsReady, IsApplied, IsElsewhere};
-ghost use Rattle.ts_rules.specs.declared.rule.Rule.{Rule as TheRule};
 ghost use Rattle.ts_db.specs.DestinationUpdates.{Rows, RemovedTimes};
 ghost use Rattle.ts_db.specs.Planning.{AreDestinationsUpdatedBy, AreDistinct, AreDestinationPlans};
 ghost use Rattle.ts_db.specs.Planning.{AreDestinationsUpdated, HasCapacityForRules, for_destination};

@@ -122,7 +122,8 @@ fn visit_all<V: Visit>(samples: &[Sample], visit: &mut V) -> Result<(), AllocErr
 
 // At most the first `count` rows, newest first if `reverse`. The given rows are oldest first.
 fn in_order(rows: Vec<Row>, reverse: bool, count: Option<u64>) -> Vec<Row>
-    ensures { map row_of result.items ≡ spec.limit_rows count (spec.in_requested_order reverse (map row_of rows.items)) }
+    ensures { map row_of result.items
+        ≡ spec.limit_rows count (spec.in_requested_order reverse (map row_of rows.items)) }
 {
     if reverse {
         return in_requested_order(rows, count);

@@ -2,7 +2,8 @@
 ghost use Rattle.std.specs.Prelude.{◌≡◌, ◌+ℤ◌, ◌*◌, ◌^◌, ◌≤◌, ◌↔◌, ◌+◌, ◌-◌, unsigned_abs, IsTrue};
 ghost use Rattle.ts_spec.specs.Value.{bound};
 ghost use Rattle.ts_restore.specs.Summaries.{IsShortSummary, summary_of, middle, times};
-ghost use Rattle.ts_restore.specs.Summaries.{IsOrdered, IsReachable, HasLeast, HasGreatest, IsSpread, IsExact, IsSingle};
+ghost use Rattle.ts_restore.specs.Summaries.{IsOrdered, IsReachable, HasLeast, HasGreatest, IsSpread, IsExact};
+ghost use Rattle.ts_restore.specs.Summaries.{IsSingle};
 
 use ts_spec::Units;
 

@@ -44,7 +44,11 @@ impl Model for CountedWith {
 impl CountedWith {
     // Only the written sample so far.
     pub(crate) fn new(made: u32, wrote: &Sample) -> CountedWith
-        ensures empty { result ≡ record { counting = record { made = made; running = nothing }; held = Some wrote.now; least = wrote.now.made } }
+        ensures empty { result ≡ record {
+          counting = record { made = made; running = nothing };
+          held = Some wrote.now;
+          least = wrote.now.made;
+        } }
         ensures told { (ps : List Point) → IsAscending ps → whole (visited with_next result ps)
             ≡ summary (filter (λ p. nat_le made p.made) (put wrote.now ps)) }
         ensures least { (ps : List Point) (number : ℕ) → number ≤ (visited with_next result ps).least

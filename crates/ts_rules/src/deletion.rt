@@ -36,8 +36,10 @@ pub(crate) struct Deletion<'a> {
     pub ghost in_time: { to ≤ MAX_TIME },
     pub ghost rising: { IsNonDecreasing lost.now },
     pub ghost lies: { (b : ℕ) → contains_time lost.now b ≡ lies_in rule.now.grid (gone_of source.now from to) b },
-    pub ghost first_left: { first ≡ recounted_bucket (stored_rule_for [] rule.now) (start_of rule.now.grid from) (left_of source.now from to) },
-    pub ghost last_left: { last ≡ recounted_bucket (stored_rule_for [] rule.now) (start_of rule.now.grid to) (left_of source.now from to) },
+    pub ghost first_left: { first
+        ≡ recounted_bucket (stored_rule_for [] rule.now) (start_of rule.now.grid from) (left_of source.now from to) },
+    pub ghost last_left: { last
+        ≡ recounted_bucket (stored_rule_for [] rule.now) (start_of rule.now.grid to) (left_of source.now from to) },
 }
 
 impl Deletion<'_> {

@@ -45,7 +45,7 @@ pub fn plan_put<L: Ledger>(
     plan_put_shared(rule, source, wrote, dest, limit, &mut shared, steps)
 }
 
-/// The same for several rules of one source in turn. `shared` passes the bucket that one rule counted on to the next.
+/// Like `plan_put`, for the rules of one source in turn. `shared` carries a bucket that one rule counted to the next.
 pub fn plan_put_shared<L: Ledger>(
     rule: &Rule,
     source: &Series,

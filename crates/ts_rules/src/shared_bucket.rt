@@ -7,8 +7,8 @@ ghost use Rattle.ts_rules.specs.SharedBucket.{counted_between, IsShared};
 use std::marker::Model;
 use ts_agg::Running;
 
-/// The bucket of a written sample as the last rule counted it. A later rule with the same bucket that counts all its
-/// samples reuses the count.
+/// The bucket of a written sample as the last rule counted it. A later rule reuses the count if it has the same bucket
+/// and counts all samples in it.
 #[derive(Clone, Copy, Debug)]
 pub struct SharedBucket {
     first: u64,
