@@ -12,4 +12,5 @@ pub use counted::Counted;
 pub use names::{AggFault, aggregator_of, is_name, name, named, read_aggregator, read_reducer};
 pub use running::Running;
 pub use tally::Tally;
+pub use ts_restore::SummaryParts;
 pub use ts_spec::{Aggregator, Reducer};

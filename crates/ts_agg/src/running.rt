@@ -5,6 +5,8 @@ ghost use Rattle.ts_spec.specs.Sample.{Point};
 ghost use Rattle.ts_spec.specs.Aggregate.{aggregate, push, result_of};
 ghost use Rattle.ts_agg.specs.Running.{Summarizes};
 
+mod restored;
+
 use std::marker::Model;
 use ts_decimal::{clamp, div_round};
 use ts_sample::{Sample, Units};
