@@ -8,4 +8,5 @@ mod tally;
 pub use names::{AggFault, aggregator_of, is_name, name, named, read_aggregator, read_reducer};
 pub use running::{Counted, Running};
 pub use tally::{SampleCount, Tally, Total};
+pub use ts_restore::SummaryParts;
 pub use ts_spec::{Aggregator, Reducer};

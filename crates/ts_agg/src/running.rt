@@ -8,6 +8,8 @@ ghost use Rattle.ts_sample.specs.Visit.{visited};
 ghost use Rattle.ts_agg.specs.Running.{Summarizes};
 ghost use Rattle.ts_agg.specs.Counted.{counted_one};
 
+mod restored;
+
 use std::marker::Model;
 use ts_decimal::{clamp, div_round};
 use ts_sample::{Sample, Units, Visit};
