@@ -12,6 +12,7 @@ mod interval_scan;
 mod late_marks;
 mod mark;
 mod marks;
+mod untrusted;
 mod varint;
 mod zigzag;
 
