@@ -16,3 +16,5 @@ pub mod Starting
 pub mod Ungrouping
 pub mod Walking
 pub mod Zigzags
+pub mod Restoring
+pub mod AnyBytes

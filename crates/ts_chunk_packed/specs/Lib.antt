@@ -5,3 +5,4 @@ pub mod Numbers
 pub mod Packed
 pub mod Reading
 pub mod Decoder
+pub mod Restoring

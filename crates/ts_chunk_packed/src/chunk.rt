@@ -3,6 +3,7 @@ ghost use Rattle.std.specs.Prelude.{◌≡◌, Some};
 ghost use Rattle.std.specs.Option.{unwrap_or};
 
 mod parts;
+mod restored;
 mod splice;
 
 use crate::chunk::splice::are_halves;

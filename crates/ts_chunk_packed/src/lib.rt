@@ -11,6 +11,7 @@ mod interval_scan;
 mod late_marks;
 mod mark;
 mod marks;
+mod untrusted;
 mod varint;
 
 pub use chunk::PackedChunk;
