@@ -2,4 +2,16 @@
 #![tactic(auto)]
 
 #[cfg(test)]
-mod io;
+mod adapters;
+#[cfg(test)]
+mod batches;
+#[cfg(test)]
+mod hubs;
+#[cfg(test)]
+mod logs;
+#[cfg(test)]
+mod memory;
+#[cfg(test)]
+mod network;
+#[cfg(test)]
+mod peer;

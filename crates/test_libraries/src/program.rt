@@ -2,7 +2,8 @@
 use std::alloc::AllocError;
 use std::test::Fail;
 use ts_gen::script;
-use ts_words::{LinkEnd, Mode, Status, line, link_line, summary};
+use ts_io::Cause;
+use ts_words::{LastCauses, LinkEnd, Mode, Status, host_line, line, link_line, summary};
 
 // The mode that this command line selects. Its arguments are separated by spaces.
 fn mode_of_line(rt: &HostRuntime, line: &str) -> Result<Option<Mode>, AllocError> {
@@ -107,6 +108,34 @@ fn lines_of_endings(rt: HostRuntime) {
     assert!(rt; Status::JournalFault.code() == 9);
     assert!(rt; Status::JournalBroken.code() == 10);
     assert!(rt; Status::CaptureBroken.code() == 11);
+}
+
+#[test]
+fn a_host_tells_the_cause_of_a_fault(rt: HostRuntime) {
+    let mut room = [0; 160];
+    let causes = LastCauses {
+        hub: Some(Cause::AddressInUse),
+        log: Some(Cause::NotRegularFile),
+    };
+    assert!(rt;
+        host_line(Status::AcceptFault, 0, causes, &mut room)
+            == b"tsd: accept fault: address in use\n".as_slice()
+    );
+    assert!(rt;
+        host_line(Status::JournalFault, 0, causes, &mut room)
+            == b"tsd: journal fault: not a regular file\n".as_slice()
+    );
+    assert!(rt;
+        host_line(Status::JournalBroken, 203, causes, &mut room)
+            == b"tsd: journal broken at byte 203\n".as_slice()
+    );
+    let unknown = LastCauses {
+        hub: None,
+        log: None,
+    };
+    assert!(rt;
+        host_line(Status::AcceptFault, 0, unknown, &mut room) == b"tsd: accept fault\n".as_slice()
+    );
 }
 
 #[test]

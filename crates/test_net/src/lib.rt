@@ -3,4 +3,14 @@
 #![tactic(auto)]
 
 #[cfg(test)]
-mod net;
+mod closing;
+#[cfg(test)]
+mod echo;
+#[cfg(test)]
+mod faults;
+#[cfg(test)]
+mod many;
+#[cfg(test)]
+mod memory;
+#[cfg(test)]
+mod slow;

@@ -1,8 +1,9 @@
 -- What the adapters over std's readers, writers, listeners and files hold.
 use Rattle.std.specs.Prelude.{◌≡◌, ℕ, suc, ◌-◌, ◌^◌, min, Bool, List, [], ◌∷◌, Option, None, Some}
+use Rattle.ts_io.specs.declared.failed.Cause.{Cause}
 use Rattle.ts_io.specs.declared.file_log.FileLog.{FileLog}
-use Rattle.ts_io.specs.declared.std_streams.StdSink.{StdSink}
-use Rattle.ts_io.specs.declared.std_streams.StdSource.{StdSource}
+use Rattle.ts_io.specs.declared.streams.StdSink.{StdSink}
+use Rattle.ts_io.specs.declared.streams.StdSource.{StdSource}
 use Rattle.ts_io.specs.declared.tcp_net.TcpNet.{TcpNet}
 
 -- the reader of a source, and how many of its reads failed
@@ -29,12 +30,15 @@ failed_listens_of s = s.faults
 abbrev pub link_is_open : {R : Type 0} → TcpNet R → Bool
 link_is_open s = s.has_open_link
 
--- the read position of a log over a file, and how many of its calls failed
+-- the read position of a log over a file, how many of its calls failed, and the cause of the last failure
 abbrev pub log_position_of : {R : Type 0} → FileLog R → ℕ
 log_position_of l = l.place
 
 abbrev pub failed_log_calls_of : {R : Type 0} → FileLog R → ℕ
 failed_log_calls_of l = l.faults
+
+abbrev pub last_log_cause_of : {R : Type 0} → FileLog R → Option Cause
+last_log_cause_of l = l.last_cause
 
 -- the first list is a subsequence of the second, which has this many more bytes
 pub data IsSubsequenceBut : List ℕ → List ℕ → ℕ → Type 0 where

@@ -1,14 +1,13 @@
 // A log over a file.
 ghost use Rattle.std.specs.Prelude.{◌≡◌, ◌<◌, ◌≤◌, None, length, IfOk, OnOk, OnErr};
 ghost use Rattle.std.specs.Io.{ReadsAtMost, WritesAtMost};
-ghost use Rattle.ts_io.specs.Adapters.{failed_log_calls_of, log_position_of};
+ghost use Rattle.ts_io.specs.Adapters.{failed_log_calls_of, last_log_cause_of, log_position_of};
 ghost use Rattle.ts_io.specs.Causes.{HasCause, saturating_succ};
 ghost use Rattle.ts_io.specs.Logs.{ReadAdvances};
 
-use crate::locked_file::open_locked;
-use crate::store::cut_and_sync;
-use crate::system::{checked, read_retried, write_retried};
-use crate::{Failed, Log};
+use crate::journal_file::{cut_and_sync, open_locked};
+use crate::system::{checked, noted, read_retried, write_retried};
+use crate::{Cause, Failed, Log};
 use std::fs::File;
 use std::io;
 use std::io::{ErrorKind, Read};
@@ -25,6 +24,7 @@ pub struct FileLog<R> {
     file: Option<File>,
     place: u64,
     faults: u64,
+    last_cause: Option<Cause>,
 }
 
 // A file that is read from this position.
@@ -52,6 +52,7 @@ impl<R: Files<File = File>> FileLog<R> {
             file: None,
             place: 0,
             faults: 0,
+            last_cause: None,
         }
     }
 
@@ -102,6 +103,8 @@ impl<R: Files<File = File>> Log for FileLog<R> {
 
     ghost faults = { failed_log_calls_of };
 
+    ghost last_cause = { last_log_cause_of };
+
     /// Opens and locks the file, creating it if it does not exist. The file that was open is closed first. A new file's
     /// name is synced in its folder. Fails without changing the file if another log has it open, if it is not a regular
     /// file, or if the name no longer leads to it.
@@ -112,8 +115,8 @@ impl<R: Files<File = File>> Log for FileLog<R> {
         ensures err { OnErr result (failed_log_calls_of self.new ≡ saturating_succ (failed_log_calls_of self.old)) }
     {
         self.file = None;
-        let file = checked(open_locked(&self.rt, name), &mut self.faults)?;
-        self.file = Some(file);
+        let outcome = noted(open_locked(&self.rt, name), &mut self.last_cause);
+        self.file = Some(checked(outcome, &mut self.faults)?);
         self.place = 0;
         Ok(())
     }
@@ -125,7 +128,8 @@ impl<R: Files<File = File>> Log for FileLog<R> {
         ensures cause { HasCause (failed_log_calls_of self.old) (failed_log_calls_of self.new) result }
         ensures err { OnErr result (failed_log_calls_of self.new ≡ saturating_succ (failed_log_calls_of self.old)) }
     {
-        let count = checked(self.read_once(buf), &mut self.faults)?;
+        let outcome = noted(self.read_once(buf), &mut self.last_cause);
+        let count = checked(outcome, &mut self.faults)?;
         self.place = self.place.saturating_add(count as u64);
         Ok(count)
     }
@@ -138,7 +142,8 @@ impl<R: Files<File = File>> Log for FileLog<R> {
         ensures cause { HasCause (failed_log_calls_of self.old) (failed_log_calls_of self.new) result }
         ensures err { OnErr result (failed_log_calls_of self.new ≡ saturating_succ (failed_log_calls_of self.old)) }
     {
-        checked(self.cut_file(len), &mut self.faults)
+        let outcome = noted(self.cut_file(len), &mut self.last_cause);
+        checked(outcome, &mut self.faults)
     }
 
     /// Makes one write call. Fails if no file is open.
@@ -149,7 +154,8 @@ impl<R: Files<File = File>> Log for FileLog<R> {
         ensures cause { HasCause (failed_log_calls_of self.old) (failed_log_calls_of self.new) result }
         ensures err { OnErr result (failed_log_calls_of self.new ≡ saturating_succ (failed_log_calls_of self.old)) }
     {
-        checked(self.write_once(bytes), &mut self.faults)
+        let outcome = noted(self.write_once(bytes), &mut self.last_cause);
+        checked(outcome, &mut self.faults)
     }
 
     /// Returns `Ok` once the system reports that the content is on disk. Fails if no file is open.
@@ -158,6 +164,11 @@ impl<R: Files<File = File>> Log for FileLog<R> {
         ensures cause { HasCause (failed_log_calls_of self.old) (failed_log_calls_of self.new) result }
         ensures err { OnErr result (failed_log_calls_of self.new ≡ saturating_succ (failed_log_calls_of self.old)) }
     {
-        checked(self.sync_once(), &mut self.faults)
+        let outcome = noted(self.sync_once(), &mut self.last_cause);
+        checked(outcome, &mut self.faults)
+    }
+
+    fn last_cause(&self) -> Option<Cause> {
+        self.last_cause
     }
 }

@@ -67,7 +67,8 @@ impl<'a, J: Log> Gathered<'a, J> {
         ensures none { OnOk result (pending_of self.new ≡ []) }
         ensures front { OnErr result (AppendsPrefix (J.content (log_of self.old)) (J.content (log_of self.new))
             (pending_of self.old)) }
-        ensures prefix { AppendsPrefix (J.content (log_of self.old)) (J.content (log_of self.new)) (pending_of self.old) }
+        ensures prefix { AppendsPrefix (J.content (log_of self.old)) (J.content (log_of self.new))
+            (pending_of self.old) }
         ensures same_reference { lent_to self.new ≡ lent_to self.old }
         ensures cause { HasCause (J.faults (log_of self.old)) (J.faults (log_of self.new)) result }
     {

@@ -1,10 +1,39 @@
 // The trait of a hub: many links at once.
-ghost use Rattle.std.specs.Prelude.{◌≡◌, ℕ, List, Option};
+ghost use Rattle.std.specs.Prelude.{◌≡◌, IfOk, ℕ, List, Option};
 ghost use Rattle.ts_io.specs.Causes.{HasCause};
 ghost use Rattle.ts_io.specs.Pieces.{Piece};
 ghost use Rattle.ts_io.specs.Hubs.{Outgoing, NextBrings, Gives, LetsOut, Same};
 
-use crate::{Failed, Packet};
+use crate::{Cause, Failed};
+use std::alloc::{AllocError, Global};
+use std::marker::Model;
+
+/// The number of a link, and bytes that it received or is to send.
+#[derive(Drop)]
+pub struct Packet {
+    pub link: u64,
+    pub bytes: Vec<u8>,
+}
+
+impl Model for Packet {
+    ghost use Rattle.ts_io.specs.Pieces.{Piece};
+
+    ghost Value = { Piece };
+
+    ghost view = { λ p. record { link = p.link; bytes = p.bytes.items } };
+}
+
+impl Packet {
+    /// Copies these bytes.
+    pub fn new(alloc: Global, link: u64, bytes: &[u8]) -> Result<Self, AllocError>
+        ensures { IfOk result (λ p. p ≡ record { link = link; bytes = bytes.now }) }
+    {
+        Ok(Packet {
+            link,
+            bytes: Vec::from_slice(alloc, bytes)?,
+        })
+    }
+}
 
 /// One step of what a hub receives, if the hub knows it beforehand.
 #[derive(Drop)]
@@ -39,9 +68,10 @@ pub enum Next {
     End,
 }
 
-/// Many links at once. Each has a number, and no number is used twice. Bytes that are given to a link are kept back until
-/// they are let out.
+/// Many links at once. Each has a number, and no number is used twice. Bytes that are given to a link are kept back
+/// until they are let out.
 pub trait Hub {
+    ghost use Rattle.ts_io.specs.declared.failed.Cause.{Cause};
     ghost use Rattle.ts_io.specs.declared.hub.Step.{Step};
 
     /// The steps to come, if the hub knows them.
@@ -50,12 +80,15 @@ pub trait Hub {
     /// The bytes at hand.
     ghost hand: { Self → List ℕ };
 
-    /// Whether it let out these pieces, in order, and was given those since then. A hub that does not record them has no
-    /// such lists.
+    /// Whether it let out these pieces, in order, and was given those since then. A hub that does not record them has
+    /// no such lists.
     ghost out: { Self → Outgoing };
 
     /// How many calls have failed. It never falls.
     ghost faults: { Self → ℕ };
+
+    /// Why the last call that failed did so, if the system told.
+    ghost last_cause: { Self → Option Cause };
 
     /// Starts to listen on this address.
     fn open(&mut self, address: &str) -> Result<(), Failed>
@@ -90,4 +123,8 @@ pub trait Hub {
         ensures coming { coming self.new ≡ coming self.old }
         ensures out { Same (out self.old) (out self.new) }
         ensures faults { faults self.new ≡ faults self.old };
+
+    /// Why the last call that failed did so, if the system told.
+    fn last_cause(&self) -> Option<Cause>
+        ensures { result ≡ last_cause self.now };
 }

@@ -1,16 +1,18 @@
 // The log that holds a journal: it is read from its start, then appended to.
-ghost use Rattle.std.specs.Prelude.{◌≡◌, ℕ, ◌<◌, ◌≤◌, List, length, Option, IfOk, OnOk, OnErr};
+ghost use Rattle.std.specs.Prelude.{◌≡◌, ℕ, ◌<◌, ◌≤◌, List, length, Option, IfOk, OnOk, OnErr, None};
 ghost use Rattle.std.specs.Io.{ReadsAtMost, WritesAtMost};
 ghost use Rattle.std.specs.Io.KnownBytes.{ReadConsumes, append_known};
 ghost use Rattle.ts_io.specs.Causes.{HasCause};
 ghost use Rattle.ts_io.specs.Logs.{AppendsPrefix, AppendGrows, ReadAdvances, front, unread};
 
-use crate::Failed;
+use crate::{Cause, Failed};
 
 /// A named list of bytes that can be opened, read from its start, cut and appended to.
 ///
 /// Its read position is the number of bytes read since it was last opened. It stops at `u64::MAX`.
 pub trait Log {
+    ghost use Rattle.ts_io.specs.declared.failed.Cause.{Cause};
+
     /// The whole content, if the log knows it.
     ghost content: { Self → Option (List ℕ) };
 
@@ -19,6 +21,9 @@ pub trait Log {
 
     /// How many calls have failed. It never falls.
     ghost faults: { Self → ℕ };
+
+    /// Why the last call that failed did so, if the system told.
+    ghost last_cause: { Self → Option Cause };
 
     /// Opens the log with this name and moves to its start. Creates an empty one if it does not exist.
     fn open(&mut self, name: &str) -> Result<(), Failed>
@@ -59,6 +64,10 @@ pub trait Log {
         ensures content { content self.new ≡ content self.old }
         ensures place { place self.new ≡ place self.old }
         ensures cause { HasCause (faults self.old) (faults self.new) result };
+
+    /// Why the last call that failed did so, if the system told.
+    fn last_cause(&self) -> Option<Cause>
+        ensures { result ≡ last_cause self.now };
 }
 
 /// Appends all of `bytes`, in as many calls as needed. Stops at the first call that fails.
@@ -73,4 +82,42 @@ pub fn append_all_counted<J: Log>(log: &mut J, bytes: &[u8]) -> Result<(), Faile
         written += log.append(&bytes[written..])?;
     }
     Ok(())
+}
+
+/// A log that stores nothing, for a server that keeps its data in memory. Each call succeeds.
+#[derive(Drop)]
+pub struct NoLog;
+
+impl Log for NoLog {
+    ghost content = { λ s. None };
+
+    ghost place = { λ s. 0 };
+
+    ghost faults = { λ s. 0 };
+
+    ghost last_cause = { λ s. None };
+
+    fn open(&mut self, _name: &str) -> Result<(), Failed> {
+        Ok(())
+    }
+
+    fn read(&mut self, _buf: &mut [u8]) -> Result<usize, Failed> {
+        Ok(0)
+    }
+
+    fn cut(&mut self, _len: u64) -> Result<(), Failed> {
+        Ok(())
+    }
+
+    fn append(&mut self, bytes: &[u8]) -> Result<usize, Failed> {
+        Ok(bytes.len())
+    }
+
+    fn sync(&mut self) -> Result<(), Failed> {
+        Ok(())
+    }
+
+    fn last_cause(&self) -> Option<Cause> {
+        None
+    }
 }

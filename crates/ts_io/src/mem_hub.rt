@@ -1,10 +1,10 @@
 // A hub for tests, with links in memory.
-ghost use Rattle.std.specs.Prelude.{◌≡◌, [], ◌∷◌, ◌++◌, Some, IsErr, OnOk, OnErr, Contains, is_err, ◌↔◌};
+ghost use Rattle.std.specs.Prelude.{◌≡◌, [], ◌∷◌, ◌++◌, None, Some, IsErr, OnOk, OnErr, Contains, is_err, ◌↔◌};
 ghost use Rattle.ts_io.specs.Causes.{HasCause};
 ghost use Rattle.ts_io.specs.Hubs.{NextBrings};
 
 use crate::schedule::Schedule;
-use crate::{Failed, Hub, Next, Packet, Step, Way};
+use crate::{Cause, Failed, Hub, Next, Packet, Step, Way};
 use std::alloc::Global;
 use std::collections::VecDeque;
 use std::marker::Model;
@@ -40,8 +40,8 @@ impl Model for MemHub {
 }
 
 impl MemHub {
-    /// Creates a hub that receives these steps. A call of `open`, `next` or `give` fails if its number, counted from 1, is
-    /// in `fail`.
+    /// Creates a hub that receives these steps. A call of `open`, `next` or `give` fails if its number, counted from 1,
+    /// is in `fail`.
     pub fn new(alloc: Global, coming: Vec<Step>, fail: Vec<u64>) -> Self
         ensures coming { result.coming ≡ coming.items }
         ensures hand { result.hand ≡ [] }
@@ -77,6 +77,8 @@ impl Hub for MemHub {
     ghost out = { λ s sent given. (s.sent ≡ sent) × (s.given ≡ given) };
 
     ghost faults = { λ s. s.calls.failed };
+
+    ghost last_cause = { λ _. None };
 
     /// Listens on no address.
     fn open(&mut self, _address: &str) -> Result<(), Failed>
@@ -120,7 +122,8 @@ impl Hub for MemHub {
         ensures coming { self.new.coming ≡ self.old.coming }
         ensures hand { self.new.hand ≡ self.old.hand }
         ensures sent { self.new.sent ≡ self.old.sent }
-        ensures given { OnOk result (self.new.given ≡ self.old.given ++ record { link = link; bytes = bytes.now } ∷ []) }
+        ensures given { OnOk result
+            (self.new.given ≡ self.old.given ++ record { link = link; bytes = bytes.now } ∷ []) }
         ensures failed { OnErr result (self.new.given ≡ self.old.given) }
         ensures cause { HasCause self.old.calls.failed self.new.calls.failed result }
         ensures calls { self.new.calls ≡ after_call self.old.calls (is_err result) }
@@ -152,4 +155,9 @@ impl Hub for MemHub {
     fn close(&mut self, _link: u64)
         ensures { self.new ≡ self.old }
     {}
+
+    /// Always `None`: no system is behind it.
+    fn last_cause(&self) -> Option<Cause> {
+        None
+    }
 }

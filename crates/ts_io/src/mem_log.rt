@@ -1,5 +1,5 @@
 // A log for tests, with its content in memory.
-ghost use Rattle.std.specs.Prelude.{◌≡◌, ◌-◌, ◌<◌, ◌≤◌, ◌↔◌, Some, length, min, take, IfOk, OnOk, OnErr, IsErr};
+ghost use Rattle.std.specs.Prelude.{◌≡◌, ◌-◌, ◌<◌, ◌≤◌, ◌↔◌, None, Some, length, min, take, IfOk, OnOk, OnErr, IsErr};
 ghost use Rattle.std.specs.Prelude.{Contains, is_err};
 ghost use Rattle.std.specs.Io.{ReadsAtMost, WritesAtMost};
 ghost use Rattle.std.specs.Io.KnownBytes.{ReadConsumes};
@@ -8,7 +8,7 @@ ghost use Rattle.ts_io.specs.Logs.{AppendGrows, ReadAdvances, unread};
 
 use crate::mem_streams::copy_prefix;
 use crate::schedule::Schedule;
-use crate::{Failed, Log};
+use crate::{Cause, Failed, Log};
 use std::marker::Model;
 
 /// A log with its content in memory, the same under every name. Each call reads or appends as many bytes as it can. The
@@ -59,6 +59,8 @@ impl Log for MemLog {
     ghost place = { λ s. s.place };
 
     ghost faults = { λ s. s.calls.failed };
+
+    ghost last_cause = { λ _. None };
 
     /// Opens the same content whatever the name.
     fn open(&mut self, _name: &str) -> Result<(), Failed>
@@ -138,5 +140,10 @@ impl Log for MemLog {
         ensures fails { IsErr result ↔ Contains self.old.calls.to_fail (next_call_number self.old.calls) }
     {
         self.schedule.call()
+    }
+
+    /// Always `None`: no system is behind it.
+    fn last_cause(&self) -> Option<Cause> {
+        None
     }
 }

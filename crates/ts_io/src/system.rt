@@ -1,12 +1,12 @@
 // Calls of the system: an interrupted one is made again, and each outcome is passed on through one function.
-ghost use Rattle.std.specs.Prelude.{◌≤◌, length, take, IfOk, IfSome, OnErr};
+ghost use Rattle.std.specs.Prelude.{◌≡◌, ◌≤◌, length, take, IfOk, IfSome, OnErr};
 ghost use Rattle.std.specs.Io.{ReadsAtMost, WritesAtMost};
 ghost use Rattle.std.specs.Io.KnownBytes.{Appends, Keeps, ReadConsumes};
 ghost use Rattle.ts_io.specs.Causes.{HasCause};
-ghost use Rattle.ts_io.specs.System.{ArrivedConsumes, IsSameOutcome, CountsFailure};
+ghost use Rattle.ts_io.specs.System.{ArrivedConsumes, IsSameOutcome, CountsFailure, NotesCause};
 
-use crate::Failed;
 use crate::failed::count_failure;
+use crate::{Cause, Failed};
 use std::io;
 use std::io::{ErrorKind, Read, Write};
 
@@ -21,6 +21,17 @@ pub fn checked<T>(outcome: io::Result<T>, faults: &mut u64) -> Result<T, Failed>
         Ok(value) => Ok(value),
         Err(_) => Err(count_failure(faults)),
     }
+}
+
+/// Passes an outcome on. Notes the cause of an error.
+pub fn noted<T>(outcome: io::Result<T>, last: &mut Option<Cause>) -> io::Result<T>
+    ensures same { result ≡ outcome }
+    ensures cause { NotesCause outcome last.old last.new }
+{
+    if let Err(error) = &outcome {
+        *last = Cause::of(error.kind());
+    }
+    outcome
 }
 
 /// Reads once. A read that a signal interrupted is made again, and so is one that ran out of time, where the reader has

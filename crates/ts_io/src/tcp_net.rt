@@ -4,7 +4,7 @@ ghost use Rattle.ts_io.specs.Adapters.{failed_listens_of, link_is_open};
 ghost use Rattle.ts_io.specs.Causes.{HasCause, saturating_succ};
 
 use crate::system::checked;
-use crate::tcp_link::Link;
+use crate::tcp_connection::Link;
 use crate::{
     Batches, Ends, Failed, Listener, StdSink, StdSource, TcpConnection, TcpReader, TcpWriter,
 };

@@ -1,7 +1,7 @@
 // How a hub waits, and accepts connections.
-use crate::acceptor::{Acceptor, LISTENER};
 use crate::link::Link;
 use crate::links::Links;
+use crate::sockets::{Acceptor, LISTENER};
 use mio::event::Event;
 use std::io;
 use std::io::ErrorKind;

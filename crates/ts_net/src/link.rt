@@ -3,7 +3,7 @@ ghost use Rattle.std.specs.Prelude.{◌≡◌, ℕ, []};
 ghost use Rattle.ts_net.specs.declared.link.State.{State};
 ghost use Rattle.ts_net.specs.declared.link.State.TheVariants.{Draining};
 
-use crate::answer::{Answer, answer_of};
+use crate::sockets::{Answer, answer_of};
 use mio::net::TcpStream;
 use std::alloc::Global;
 use std::io::{Read, Write};

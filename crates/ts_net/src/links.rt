@@ -1,9 +1,9 @@
 // The links of a hub, and which of them have something to be read or sent.
 ghost use Rattle.std.specs.Prelude.{◌≡◌, ◌≤◌, length, take};
 
-use crate::acceptor::Acceptor;
-use crate::draining::Drains;
 use crate::link::{Got, Link};
+use crate::sending::Drains;
+use crate::sockets::Acceptor;
 use slab::Slab;
 use std::alloc::Global;
 use std::collections::VecDeque;
@@ -27,7 +27,8 @@ pub(crate) struct Links<R> {
     // the number of the newest link
     pub(crate) newest: u64,
     pub(crate) links: Slab<Link>,
-    // the links that may have something to be read, how many of them are left in this round, and how many bytes it has read
+    // the links that may have something to be read, how many of them are left in this round, and how many bytes it has
+    // read
     pub(crate) ready: VecDeque<usize>,
     pub(crate) left_in_round: usize,
     pub(crate) round_bytes: usize,

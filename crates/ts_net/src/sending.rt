@@ -1,7 +1,46 @@
 // How a hub sends what it is given, and closes links.
 use crate::link::State;
 use crate::links::Links;
+use std::alloc::Global;
+use std::collections::VecDeque;
 use std::net::Net;
+
+/// The most links that are draining at once.
+const MAX_DRAINING: usize = 64;
+
+/// The keys of the draining links, the oldest first.
+#[derive(Drop)]
+pub(crate) struct Drains {
+    keys: VecDeque<usize>,
+}
+
+impl Drains {
+    /// Starts with none. Allocates nothing.
+    pub(crate) fn new(alloc: Global) -> Self {
+        Drains {
+            keys: VecDeque::new(alloc),
+        }
+    }
+
+    /// Adds a key. Returns the one that has to leave for it: the oldest if there are too many, or the same one if
+    /// memory runs out.
+    pub(crate) fn add(&mut self, key: usize) -> Option<usize> {
+        let oldest = if self.keys.len() < MAX_DRAINING {
+            None
+        } else {
+            self.keys.pop_front()
+        };
+        match self.keys.push_back(key) {
+            Ok(()) => oldest,
+            Err(_) => Some(key),
+        }
+    }
+
+    /// Removes a key.
+    pub(crate) fn remove(&mut self, key: usize) {
+        self.keys.retain(|&other| other != key);
+    }
+}
 
 impl<R: Net> Links<R> {
     // The key of the link with this number. Mostly it is that of the bytes at hand.

@@ -3,6 +3,8 @@ use Rattle.std.specs.Prelude.{ℕ, List, [], ◌∷◌, ◌++◌, codes, Option,
 use Rattle.std.specs.Fmt.{decimal}
 use Rattle.ts_words.specs.declared.mode.Mode.{Mode}
 use Rattle.ts_words.specs.declared.mode.Mode.TheVariants as mode
+use Rattle.ts_words.specs.FaultCauses.{cause_suffix}
+use Rattle.ts_words.specs.declared.fault_causes.LastCauses.{LastCauses}
 use Rattle.ts_words.specs.declared.status.Status.{Status}
 use Rattle.ts_words.specs.declared.status.Status.TheVariants as status
 
@@ -54,3 +56,9 @@ line_of_status_in (Some (mode.Gen seed n)) ending byte_offset = line_of_status e
 line_of_status_in (Some (mode.Host storage)) ending byte_offset = line_of_status ending byte_offset
 line_of_status_in (Some mode.Keep) ending byte_offset = line_of_status ending byte_offset
 line_of_status_in None ending byte_offset = line_of_status ending byte_offset
+
+-- the line for a status of the mode `host`, where the cause follows a fault of the hub or of the log
+abbrev pub host_line_of_status : Status → (byte_offset : ℕ) → LastCauses → List ℕ
+host_line_of_status status.AcceptFault byte_offset causes = ended (codes "tsd: accept fault" ++ cause_suffix causes.hub)
+host_line_of_status status.JournalFault byte_offset causes = ended (codes "tsd: journal fault" ++ cause_suffix causes.log)
+host_line_of_status other byte_offset causes = line_of_status other byte_offset

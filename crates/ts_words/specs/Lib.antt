@@ -1,3 +1,4 @@
 pub mod Endings
+pub mod FaultCauses
 pub mod Lines
 pub mod Modes

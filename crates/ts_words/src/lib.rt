@@ -2,10 +2,12 @@
 //! line is written into a buffer of the caller.
 #![tactic(auto)]
 
+mod fault_causes;
 mod lines;
 mod mode;
 mod status;
 
-pub use lines::{LinkEnd, line, link_line, summary};
+pub use fault_causes::{LastCauses, host_line};
+pub use lines::{LinkEnd, link_line, summary};
 pub use mode::{Mode, Storage};
-pub use status::Status;
+pub use status::{Status, line};

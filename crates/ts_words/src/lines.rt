@@ -1,95 +1,9 @@
-// The lines that the program writes about itself, each into a buffer of the caller, so that no call allocates.
-ghost use Rattle.std.specs.Prelude.{◌≡◌, ◌+◌, ◌<◌, ◌≤◌, ◌++◌, length, take};
+// The lines that the program writes to standard output about itself, each into a buffer of the caller.
+ghost use Rattle.std.specs.Prelude.{◌≡◌, ◌+◌, ◌≤◌, ◌++◌, length, take};
 ghost use Rattle.std.specs.Fmt.{decimal};
-ghost use Rattle.ts_words.specs.Endings.{ended, line_of_status_in};
 ghost use Rattle.ts_words.specs.Lines.{link_end_word, link_line_of, summary_line, summary_of};
 
-use crate::{Mode, Status};
 use itoa::Buffer;
-
-/// Writes the line for a status into `line_buffer`, empty for success. `byte_offset` is the byte offset, from 0, where a stream
-/// breaks or where its unfinished request or frame begins. Only the mode `Mux` has a line of its own: a capture ends
-/// inside a frame.
-pub fn line(
-    mode: Option<Mode>,
-    status: Status,
-    byte_offset: u64,
-    line_buffer: &mut [u8; 160],
-) -> &[u8]
-    ensures { result.now ≡ line_of_status_in mode status byte_offset }
-{
-    let end = match status {
-        Status::Ended => 0,
-        Status::Usage => write_text_line(
-            line_buffer,
-            b"usage: tsd pipe | tsd serve <address> <connections> | tsd gen <seed> <n> | tsd keep <file> | tsd host <address> [<file> [sync]] | tsd mux",
-        ),
-        Status::Truncated => write_truncated_line(mode, line_buffer, byte_offset),
-        Status::Protocol => write_offset_line(
-            line_buffer,
-            b"tsd: protocol fault at byte ",
-            byte_offset,
-        ),
-        Status::ReadFault => write_text_line(line_buffer, b"tsd: read fault"),
-        Status::WriteFault => write_text_line(line_buffer, b"tsd: write fault"),
-        Status::Memory => write_text_line(line_buffer, b"tsd: out of memory"),
-        Status::AcceptFault => write_text_line(line_buffer, b"tsd: accept fault"),
-        Status::Budget => write_text_line(line_buffer, b"tsd: budget of bytes used up"),
-        Status::JournalFault => write_text_line(line_buffer, b"tsd: journal fault"),
-        Status::JournalBroken => write_offset_line(
-            line_buffer,
-            b"tsd: journal broken at byte ",
-            byte_offset,
-        ),
-        Status::CaptureBroken => write_offset_line(
-            line_buffer,
-            b"tsd: capture broken at byte ",
-            byte_offset,
-        ),
-    };
-    &line_buffer[..end]
-}
-
-// Writes the line of an input that ends inside a request or a frame, and returns its length.
-fn write_truncated_line(mode: Option<Mode>, line_buffer: &mut [u8; 160], byte_offset: u64) -> usize
-    ensures text { take result line_buffer.new ≡ line_of_status_in mode Status.Truncated byte_offset }
-    ensures within { result ≤ 160 }
-{
-    match mode {
-        Some(Mode::Mux) => write_offset_line(
-            line_buffer,
-            b"tsd: capture ends inside a frame that begins at byte ",
-            byte_offset,
-        ),
-        Some(Mode::Pipe | Mode::Serve(_) | Mode::Gen(_, _) | Mode::Keep | Mode::Host(_)) | None =>
-            write_offset_line(
-                line_buffer,
-                b"tsd: input ends inside a request that begins at byte ",
-                byte_offset,
-            ),
-    }
-}
-
-// Writes this text as a line, and returns its length.
-fn write_text_line(line_buffer: &mut [u8; 160], text: &[u8]) -> usize
-    requires { length text.now < 160 }
-    ensures text { take result line_buffer.new ≡ ended text.now }
-    ensures within { result ≤ 160 }
-{
-    let at = write_text_at(line_buffer, 0, text);
-    write_text_at(line_buffer, at, b"\n")
-}
-
-// Writes this text and a byte offset as a line, and returns its length.
-fn write_offset_line(line_buffer: &mut [u8; 160], text: &[u8], byte_offset: u64) -> usize
-    requires { length text.now + 20 < 160 }
-    ensures text { take result line_buffer.new ≡ ended (text.now ++ decimal byte_offset) }
-    ensures within { result ≤ 160 }
-{
-    let at = write_text_at(line_buffer, 0, text);
-    let at = write_number_at(line_buffer, at, byte_offset);
-    write_text_at(line_buffer, at, b"\n")
-}
 
 /// How a served connection ended.
 #[derive(Clone, Copy, Debug, PartialEq, Eq)]
@@ -149,9 +63,9 @@ pub fn link_line(link: u64, executed: u64, end: LinkEnd, line_buffer: &mut [u8; 
     &line_buffer[..at]
 }
 
-/// Writes the summary of a workload into `line_buffer`: six lines, each a name and a number. The numbers are the requests
-/// executed, the bytes of the requests, the bytes of the replies, the error replies, the keys, and the samples of all
-/// keys.
+/// Writes the summary of a workload into `line_buffer`: six lines, each a name and a number. The numbers are the
+/// requests executed, the bytes of the requests, the bytes of the replies, the error replies, the keys, and the samples
+/// of all keys.
 pub fn summary<'a>(numbers: &[u64; 6], line_buffer: &'a mut [u8; 192]) -> &'a [u8]
     ensures { result.now ≡ summary_of numbers.now }
 {

@@ -38,7 +38,8 @@ pub enum Mode {
 
 impl Mode {
     /// Parses the arguments after the program's name: `pipe`, `mux`, `keep NAME`, `serve ADDRESS CONNECTIONS`, `gen
-    /// SEED N`, or `host ADDRESS`, with a journal `host ADDRESS NAME` or `host ADDRESS NAME sync`. Returns `None` for anything else.
+    /// SEED N`, or `host ADDRESS`, with a journal `host ADDRESS NAME` or `host ADDRESS NAME sync`. Returns `None` for
+    /// anything else.
     pub fn read(words: &[String]) -> Option<Mode>
         ensures mode { result ≡ mode_of (map string_bytes words.now) }
         ensures within { IfSome result IsWithin }

@@ -1,10 +1,24 @@
-// Devices in memory, and the counting sink.
-use crate::io::calls::{read_two, time_of};
+// Devices in memory, the counting sink, and one call of any device.
 use std::test::Fail;
 use ts_io::{
-    CountSink, Ends, Failed, Listener, MemClock, MemListener, MemSink, MemSource, Sink,
-    write_all_counted,
+    Clock, CountSink, Ends, Failed, Listener, MemClock, MemListener, MemSink, MemSource, Sink,
+    Source, write_all_counted,
 };
+
+// Reads two bytes from any source.
+pub(crate) fn read_two<S: Source>(source: &mut S) -> Result<(usize, [u8; 2]), Failed> {
+    let mut buf = [0; 2];
+    let count = source.read(&mut buf)?;
+    Ok((count, buf))
+}
+
+pub(crate) fn write_once<K: Sink>(sink: &mut K, bytes: &[u8]) -> Result<usize, Failed> {
+    sink.write(bytes)
+}
+
+pub(crate) fn time_of<C: Clock>(clock: &mut C) -> u64 {
+    clock.now()
+}
 
 #[test]
 fn a_source_in_memory_fails_at_its_number_and_goes_on(rt: HostRuntime) -> Result<(), Fail> {

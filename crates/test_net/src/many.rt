@@ -1,5 +1,5 @@
 // Many links at once.
-use crate::net::echo::{Echo, hears, open_descriptors, open_many};
+use crate::echo::{Echo, hears, open_descriptors, open_many};
 use std::io::Write;
 use std::net::TcpStream;
 use std::test::Fail;

@@ -1,6 +1,5 @@
 // Clients that read late or never.
-use crate::net::calls::{next_bytes, next_of};
-use crate::net::echo::{Echo, hear_all, hears};
+use crate::echo::{Echo, hear_all, hears, next_bytes, next_of};
 use std::io::{Read, Write};
 use std::net::TcpStream;
 use std::test::Fail;

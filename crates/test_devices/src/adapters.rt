@@ -1,5 +1,5 @@
 // Adapters over std's readers, writers and clock.
-use crate::io::calls::{read_two, time_of, write_once};
+use crate::memory::{read_two, time_of, write_once};
 use std::io;
 use std::io::{Read, Write};
 use std::test::Fail;

@@ -2,7 +2,7 @@ use Rattle.std.proofs.Common.{ℕ, [], sym, subst}
 use Rattle.ts_io.specs.Adapters.{HoldsAcknowledged}
 use Rattle.ts_io.specs.Sinks.{Grows}
 use Rattle.ts_io.proofs.Holding.{holds_flushed, holds_unflushed}
-use Rattle.ts_io.proofs.std_streams.StdSinkSink.write.Goals as goal
+use Rattle.ts_io.proofs.streams.StdSinkSink.write.Goals as goal
 
 pub returns-in-Ok-clause-bytes : goal.returns-in-Ok-clause-bytes
 returns-in-Ok-clause-bytes g c = holds_flushed _ _ _ _ c.in-Ok.ensures.flushed

@@ -2,7 +2,7 @@
 ghost use Rattle.std.specs.Prelude.{◌≡◌, false, IfOk};
 ghost use Rattle.ts_io.specs.Adapters.{link_is_open};
 
-use crate::io::calls::{read_two, write_once};
+use crate::memory::{read_two, write_once};
 use std::io;
 use std::io::{Read, Write};
 use std::net::{Shutdown, SocketAddr, TcpListener, TcpStream};

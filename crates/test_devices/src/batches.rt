@@ -1,6 +1,6 @@
 // Batched replies to a peer in memory.
-use crate::io::calls::{read_two, write_once};
-use crate::io::peer::Peer;
+use crate::memory::{read_two, write_once};
+use crate::peer::Peer;
 use std::alloc::{AllocError, Global};
 use std::test::Fail;
 use ts_io::{Batches, Failed, Waiting, write_all_counted};

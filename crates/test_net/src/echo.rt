@@ -4,7 +4,7 @@ use std::io::Read;
 use std::net::{SocketAddr, TcpListener, TcpStream};
 use std::test::Fail;
 use std::time::Duration;
-use ts_io::{Hub, Next, Way};
+use ts_io::{Failed, Hub, Next, Way};
 use ts_net::TcpHub;
 
 /// How long a client waits for a reply before its test fails, in seconds.
@@ -156,4 +156,20 @@ pub(crate) fn hear_all(client: &mut TcpStream, rt: &HostRuntime) -> Result<Vec<u
     let mut heard = Vec::new(rt.alloc());
     client.read_to_end(&mut heard)?;
     Ok(heard)
+}
+
+pub(crate) fn next_of<H: Hub>(hub: &mut H) -> Result<Next, Failed> {
+    hub.next()
+}
+
+/// The link whose bytes come next. Pauses before that are passed over.
+pub(crate) fn next_bytes<H: Hub>(hub: &mut H) -> Option<u64> {
+    for _ in 0..100 {
+        match hub.next() {
+            Ok(Next::Pause) => {}
+            Ok(Next::Bytes(link)) => return Some(link),
+            _ => return None,
+        }
+    }
+    None
 }

@@ -1,5 +1,5 @@
 // Memory.
-use crate::net::echo::Echo;
+use crate::echo::Echo;
 use std::fs;
 use std::io::Write;
 use std::test::Fail;

@@ -1,8 +1,21 @@
 // Logs, in memory and over a file.
-use crate::io::calls::read_log;
+ghost use Rattle.std.specs.Prelude.{◌≡◌, IfOk};
+ghost use Rattle.ts_io.specs.Logs.{place_after};
+
 use std::fs;
 use std::test::Fail;
-use ts_io::{Failed, FileLog, Gathered, Log, MemLog, append_all_counted};
+use ts_io::{Cause, Failed, FileLog, Gathered, Log, MemLog, append_all_counted};
+
+// Reads the next bytes of any log.
+pub(crate) fn read_log<J: Log>(log: &mut J, buf: &mut [u8]) -> Result<usize, Failed>
+    ensures { IfOk result (λ n. J.place log.new ≡ place_after (J.place log.old) n) }
+{
+    log.read(buf)
+}
+
+fn cause_of<J: Log>(log: &J) -> Option<Cause> {
+    log.last_cause()
+}
 
 #[test]
 fn a_log_in_memory_fails_at_its_numbers_and_goes_on(rt: HostRuntime) -> Result<(), Fail> {
@@ -47,6 +60,7 @@ fn a_file_is_a_log_for_one_at_a_time(rt: HostRuntime) -> Result<(), Fail> {
     assert!(rt; log.sync() == Ok(()));
     let mut other = FileLog::new(&rt);
     assert!(rt; other.open(name) == Err(Failed));
+    assert!(rt; cause_of(&other) == Some(Cause::Locked));
     assert!(rt; fs::read(&rt, name)?.as_slice() == b"abcdef".as_slice());
 
     // Reopening starts at the beginning.
@@ -100,7 +114,13 @@ fn gathered_records_leave_in_one_write(rt: HostRuntime) -> Result<(), Fail> {
 #[test]
 fn a_log_is_a_regular_file(rt: HostRuntime) {
     let mut log = FileLog::new(&rt);
+    assert!(rt; log.last_cause().is_none());
     assert!(rt; log.open("/dev/null") == Err(Failed));
-    assert!(rt; log.open(".") == Err(Failed));
+    assert!(rt; cause_of(&log) == Some(Cause::NotRegularFile));
     assert!(rt; log.open("no/such/folder/some.log") == Err(Failed));
+    assert!(rt; cause_of(&log) == Some(Cause::NoSuchFolder));
+    assert!(rt; log.open(".") == Err(Failed));
+    assert!(rt; cause_of(&log) == Some(Cause::NotRegularFile));
+    assert!(rt; log.sync() == Err(Failed));
+    assert!(rt; cause_of(&log).is_none());
 }

@@ -1,6 +1,5 @@
 // How links close.
-use crate::net::calls::{next_bytes, next_of};
-use crate::net::echo::{Echo, hear_all, hears, open_descriptors};
+use crate::echo::{Echo, hear_all, hears, next_bytes, next_of, open_descriptors};
 use std::io::Write;
 use std::net::Shutdown;
 use std::test::Fail;
