@@ -20,6 +20,9 @@
 //! - `ends`, the exit status if it is not 0, and the line on standard error;
 //! - `outcome` and the expected outcome of the library's `pipe`, which is then called instead of the program: the
 //!   requests executed, the bytes taken, and the end, such as `executed 1, taken 14, WriteFault`;
+//! - `session` and what is expected of the library's `Session::piece`, which is then called for two pieces instead of the
+//!   program: the requests executed, where an unfinished one begins, and the last result, such as `executed 1, place
+//!   Some(14), More`. The first piece has 4,096 bytes, or one, or with `cuts` any number;
 //! - `executes`: the library's `execute` is then called for each request, at the clock reading 1000, instead of the
 //!   program;
 //! - `#` and a comment.
@@ -31,6 +34,7 @@
 mod direct;
 mod expected;
 mod patterns;
+mod pieces;
 mod run;
 mod setting;
 mod stream;

@@ -2,10 +2,23 @@
 use crate::direct::is_executed;
 use crate::expected::End;
 use crate::patterns::Round;
+use crate::pieces::goes_on;
 use crate::run::{Talking, comes_to, is_answered, is_answered_in_two};
 use crate::setting::Setting;
 use crate::stream::Stream;
 use std::alloc::{AllocError, Global};
+
+// What a talk calls.
+#[derive(Drop)]
+enum Subject {
+    Program,
+    // The library's `pipe`, with its expected outcome.
+    Pipe(String),
+    // `Session::piece`, with what is expected of the session after it.
+    Session(String),
+    // `execute`, for each request.
+    Execute,
+}
 
 #[derive(Drop)]
 pub(crate) struct Talk {
@@ -16,10 +29,7 @@ pub(crate) struct Talk {
     own: Stream,
     links: Vec<Stream>,
     end: End,
-    // The expected outcome of `pipe`, if the talk calls it instead of the program.
-    outcome: Option<String>,
-    // Whether the talk calls `execute` for each request instead of the program.
-    executes: bool,
+    subject: Subject,
     // Whether every line could be parsed.
     readable: bool,
 }
@@ -37,8 +47,7 @@ impl Talk {
             own: Stream::new(alloc),
             links: Vec::new(alloc),
             end: End::well(alloc),
-            outcome: None,
-            executes: false,
+            subject: Subject::Program,
             readable: true,
         }
     }
@@ -70,11 +79,15 @@ impl Talk {
             return Ok(true);
         }
         if let Some(outcome) = line.strip_prefix("outcome ") {
-            self.outcome = Some(String::from_str(self.alloc, outcome)?);
+            self.subject = Subject::Pipe(String::from_str(self.alloc, outcome)?);
+            return Ok(true);
+        }
+        if let Some(expected) = line.strip_prefix("session ") {
+            self.subject = Subject::Session(String::from_str(self.alloc, expected)?);
             return Ok(true);
         }
         if line == "executes" {
-            self.executes = true;
+            self.subject = Subject::Execute;
             return Ok(true);
         }
         if line == "link" {
@@ -156,25 +169,32 @@ impl Talk {
         links: &[Talking],
         piece: usize,
     ) -> Result<bool, AllocError> {
-        if self.executes {
-            return is_executed(self.alloc, &self.setting, own);
-        }
-        match &self.outcome {
-            None => is_answered(self.alloc, &self.setting, own, links, &self.end, piece),
-            Some(outcome) => comes_to(self.alloc, &self.setting, own, outcome, piece),
+        match &self.subject {
+            Subject::Program => {
+                is_answered(self.alloc, &self.setting, own, links, &self.end, piece)
+            }
+            Subject::Pipe(outcome) => comes_to(self.alloc, &self.setting, own, outcome, piece),
+            Subject::Session(expected) => goes_on(self.alloc, &self.setting, own, expected, piece),
+            Subject::Execute => is_executed(self.alloc, &self.setting, own),
         }
     }
 
     // The same, with each size of pieces, and with two pieces cut at each byte.
     fn is_answered_cut(&self, own: &Talking) -> Result<bool, AllocError> {
         for size in 0..own.exchange.input.len() {
-            if !self.is_answered_by(own, &[], size)?
-                || !is_answered_in_two(self.alloc, &self.setting, own, &self.end, size)?
-            {
+            if !self.is_answered_by(own, &[], size)? || !self.is_answered_split(own, size)? {
                 return Ok(false);
             }
         }
         Ok(true)
+    }
+
+    // The same, with two pieces, of which the first has this many bytes. A session always has two.
+    fn is_answered_split(&self, own: &Talking, first: usize) -> Result<bool, AllocError> {
+        match &self.subject {
+            Subject::Session(_) => Ok(true),
+            _ => is_answered_in_two(self.alloc, &self.setting, own, &self.end, first),
+        }
     }
 
     // A stream, with what is sent and expected in this round.
