@@ -7,9 +7,8 @@ ghost use Rattle.ts_chunk_packed.specs.Packed.{coded, gap, number_of, sample_of,
 ghost use Rattle.ts_chunk_packed.specs.Reading.{Begins, Follows};
 
 use crate::context::Context;
-use crate::varint::{
-    add_delta, add_narrow, add_wide, apart, apart_wide, put, read, width, width_wide, write_wide,
-};
+use crate::varint::{put, read, width, width_wide, write_wide};
+use crate::zigzag::{add_delta, add_narrow, add_wide, apart, apart_wide};
 use ts_sample::{Sample, Units};
 
 /// The largest coded sample, in bytes.

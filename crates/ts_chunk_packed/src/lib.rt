@@ -13,6 +13,7 @@ mod mark;
 mod marks;
 mod untrusted;
 mod varint;
+mod zigzag;
 
 pub use chunk::PackedChunk;
 pub use coding::packed_samples_read_back;

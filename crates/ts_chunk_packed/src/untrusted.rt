@@ -10,7 +10,7 @@ ghost use Rattle.ts_chunk_packed.specs.Reading.{Begins, Follows};
 ghost use Rattle.ts_chunk_packed.specs.Restoring.{IsCodedBy};
 
 use crate::context::Context;
-use crate::varint::add_wide;
+use crate::zigzag::add_wide;
 use ts_sample::{MAX_TIME, Sample, Units};
 
 /// Decodes the first sample of `bytes`. Returns it and the remaining bytes, or `None` if they start with no sample.
