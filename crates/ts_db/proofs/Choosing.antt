@@ -1,6 +1,6 @@
 -- Selections by the label index, in terms of keys.
 use Rattle.std.proofs.Common.{◌≡◌, ℕ, suc, ◌*◌, Bool, true, false, List, [], ◌∷◌, length, refl, sym, ◌∙◌, ap, subst, nat_cmp, min}
-use Rattle.std.specs.Prelude.{sum_by, Option, None, Some, option_map, if◌then◌else◌}
+use Rattle.std.specs.Prelude.{Option, None, Some, option_map, if◌then◌else◌}
 use Rattle.std.specs.Option.{unwrap_or}
 use Rattle.std.specs.Cmp.Lexicographic.{slice_cmp}
 use Rattle.std.specs.List.{All, AllByRecursion, IsDistinct}
@@ -9,15 +9,14 @@ use Rattle.std.specs.Map.{keys_of}
 use Rattle.std.proofs.lemmas.List.Elements.{recursion_from_All}
 use Rattle.std.proofs.lemmas.List.Sorted.{length_permutation}
 use Rattle.slab.specs.Slab as slab
-use Rattle.ts_spec.specs.Filter.{Filter, all_hold, is_positive}
+use Rattle.ts_spec.specs.Filter.{Filter, holds, all_hold, is_positive}
 use Rattle.ts_spec.specs.Key.{Key}
 use Rattle.ts_spec.specs.Keyed.{Entry}
 use Rattle.ts_spec.specs.StoredSeries.{StoredSeries, StoredKeys}
 use Rattle.ts_spec.specs.StoredQueries.{stored_selection}
 use Rattle.ts_spec.specs.State.{Label}
 use Rattle.ts_sample.specs.declared.sample.Id.{Id}
-use Rattle.ts_labels.specs.Filter.{label_of, required_values}
-use Rattle.ts_index.specs.Index.{Labelled, ids_where, has_pair}
+use Rattle.ts_index.specs.Index.{Labelled, ids_where}
 use Rattle.ts_index.specs.Numbers.{AreAscending, AreInOrder}
 use Rattle.ts_index.specs.Bounds as index
 use Rattle.ts_index.proofs.NumberLemmas.{AreAscending-where}
@@ -164,7 +163,7 @@ module _ (nodes : Nodes) (es : Numbers) (told_by : Labelled) (is : IsTold nodes 
     fewest-same [] = sym (length-all told_by) ∙ counts (λ labels. true) ∙ count-all db_view.keys.entries
     fewest-same (f ∷ fs) =
         let rest : index.fewest told_by fs ≡ fewest db_view fs = fewest-same fs in
-        λ i. if is_positive f then min (sum_by (λ value. counts (has_pair (label_of f) value) i) (required_values f)) (rest i) else rest i
+        λ i. if is_positive f then min (counts (holds f) i) (rest i) else rest i
 
     -- The steps of a selection by the index are those by the keys.
     pub select-steps : (fs : List Filter) → index.selection_steps told_by fs ≡ selection_steps db_view fs

@@ -53,13 +53,12 @@ module _ (options : Options) where
   pub wider_steps : selection_steps ten (of_kind ∷ []) ≡ 10
   wider_steps = refl
 
-  -- values are added up, also where one is there twice
-  pub values_added : candidates ten (OneOf (codes "kind") (codes "s" ∷ codes "t" ∷ codes "s" ∷ [])) ≡ 20
-  values_added = refl
+  -- a value that is there twice counts once
+  pub values_once : candidates ten (OneOf (codes "kind") (codes "s" ∷ codes "t" ∷ codes "s" ∷ [])) ≡ 10
+  values_once = refl
 
-  -- there are no more of them than keys
-  pub keys_at_most : selection_steps ten (OneOf (codes "kind") (codes "s" ∷ codes "s" ∷ []) ∷ []) ≡ 10
-  keys_at_most = refl
+  pub values_narrow : selection_steps ten (OneOf (codes "area") (codes "x" ∷ codes "y" ∷ codes "x" ∷ []) ∷ of_kind ∷ []) ≡ 2
+  values_narrow = refl
 
   -- a filter that asks for no value has no candidates of its own
   pub no_value : selection_steps ten (Present (codes "area") ∷ of_area ∷ []) ≡ 2

@@ -1,7 +1,7 @@
 -- Cost bounds: how many samples an operation decodes at most. Each decoded sample counts as one step.
 use Rattle.std.specs.Prelude.{ℕ, suc, ℤ, IsSome, ◌+◌, ◌*◌, min, length, sum_by, ◌≡◌, ◌<◌, Bool, true, ⊤, if◌then◌else◌, List, [], ◌∷◌, Option, None, Some}
 use Rattle.ts_spec.specs.Sample.{between, last_of}
-use Rattle.ts_spec.specs.Filter.{Filter, is_positive}
+use Rattle.ts_spec.specs.Filter.{Filter, holds, is_positive}
 use Rattle.ts_spec.specs.Key.{Key}
 use Rattle.ts_spec.specs.Keyed.{Entry, get}
 use Rattle.ts_spec.specs.State.{Label}
@@ -12,8 +12,6 @@ use Rattle.ts_spec.specs.Bucket.{start, members}
 use Rattle.ts_spec.specs.Rules.{is_append}
 use Rattle.ts_spec.specs.StoredSeries.{StoredRule, StoredSeries}
 use Rattle.ts_sample.specs.Chunk.{IsPast}
-use Rattle.ts_labels.specs.Filter.{label_of, required_values}
-use Rattle.ts_index.specs.Index.{has_pair}
 use Rattle.ts_rules.specs.Shares.{in_buckets}
 use Rattle.ts_db.specs.DbState.{DbView, reach_at}
 
@@ -30,11 +28,11 @@ abbrev pub count_where : (List Label → Bool) → List (Entry StoredSeries) →
 count_where test [] = 0
 count_where test (e ∷ es) = if test e.value.labels then suc (count_where test es) else count_where test es
 
--- the number of candidates of a filter: the keys with each required value, added up
+-- the number of candidates of a filter: the keys that pass it
 abbrev pub candidates : DbView → Filter → ℕ
-candidates db_view f = sum_by (λ value. count_where (has_pair (label_of f) value) db_view.keys.entries) (required_values f)
+candidates db_view f = count_where (holds f) db_view.keys.entries
 
--- the fewest candidates of a filter that requires a value, at most the number of keys
+-- the fewest candidates of a filter that requires a value, or the number of keys if no filter does
 abbrev pub fewest : DbView → List Filter → ℕ
 fewest db_view [] = length db_view.keys.entries
 fewest db_view (f ∷ fs) = if is_positive f then min (candidates db_view f) (fewest db_view fs) else fewest db_view fs

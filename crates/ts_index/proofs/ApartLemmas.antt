@@ -1,19 +1,16 @@
 -- Lists of distinct ids: their length, and their reorderings.
-use Rattle.std.proofs.Common.{◌≡◌, ℕ, ◌≤◌, ◌==◌, ◌||◌, Bool, true, false, List, [], ◌∷◌, map, length, refl, sym, ◌∙◌, ap, subst}
+use Rattle.std.proofs.Common.{◌≡◌, ℕ, ◌==◌, ◌||◌, Bool, true, false, List, [], ◌∷◌, map, refl, sym, ◌∙◌, ap, subst}
 use Rattle.std.proofs.lemmas.Bool.{false≢true}
-use Rattle.std.proofs.lemmas.List.{length-map}
 use Rattle.std.proofs.lemmas.List.Sorted.{IsPermutation-map}
 use Rattle.std.proofs.lemmas.Map.Keys.{IsDistinct-IsPermutation}
-use Rattle.std.proofs.lemmas.Map.Steps.{length-le_from_keys}
 use Rattle.std.specs.BTreeMap.{is_at}
 use Rattle.std.specs.Cmp.{IsEquivalence, nat_eq_equiv}
-use Rattle.std.specs.List.{AllByRecursion, IsDistinct, list_any}
+use Rattle.std.specs.List.{AllByRecursion, IsDistinct}
 use Rattle.std.specs.List.Sorted.{IsPermutation}
 use Rattle.std.specs.Ordering.{nat_cmp}
 use Rattle.ts_sample.specs.declared.sample.Id.{Id}
-use Rattle.ts_index.specs.Index.{Labelled}
 use Rattle.ts_index.specs.Numbers.{has_id}
-use Rattle.ts_index.specs.Candidates.{AreApart, AreLive}
+use Rattle.ts_index.specs.Candidates.{AreApart}
 use Rattle.ts_index.proofs.NumberLemmas.{is_at-number}
 
 -- equality as the map has it
@@ -25,10 +22,6 @@ numbers is = map (λ i. i.0) is
 
 alike-laws : IsEquivalence alike_numbers
 alike-laws = subst IsEquivalence (λ i q k. sym (is_at-number q k) i) nat_eq_equiv
-
-has_id-numbers : (q : ℕ) (is : List Id) → list_any (alike_numbers q) (numbers is) ≡ has_id q is
-has_id-numbers q [] = refl
-has_id-numbers q (i ∷ is) = λ k. is_at-number q i.0 k || has_id-numbers q is k
 
 pub neither : (a b : Bool) → (a || b) ≡ false → (a ≡ false) × (b ≡ false)
 neither true b h = absurd (false≢true (sym h))
@@ -53,12 +46,6 @@ apart : (is : List Id) → IsDistinct alike_numbers (numbers is) → AreApart is
 unfolding IsDistinct
 apart [] a = tt
 apart (i ∷ is) a = (alike_none i.0 is a.0, apart is a.1)
-
--- ids that are there, and none twice, are at most as many as all
-pub length-apart : (es : Labelled) (is : List Id) → AreApart is → AreLive es is → length is ≤ length es
-length-apart es is a live =
-    subst (λ n. n ≤ length es) (length-map is (λ i. i.0))
-    (length-le_from_keys alike-laws (numbers is) es (distinct is a) (λ q h. live q (sym (has_id-numbers q is) ∙ h)))
 
 -- none is twice in another order either
 pub apart-permuted : (xs ys : List Id) → IsPermutation xs ys → AreApart xs → AreApart ys

@@ -11,3 +11,4 @@ pub mod ApartLemmas
 pub mod ChoiceLemmas
 pub mod OrderLemmas
 pub mod SelectLemmas
+pub mod DistinctLemmas

@@ -9,7 +9,7 @@ use Rattle.std.specs.Prelude.{min, Option, None, Some, option_map}
 use Rattle.std.proofs.lemmas.Bool.{and_parts, false≢true, cases_order}
 use Rattle.ts_spec.specs.Filter.{Filter, holds, all_hold, is_positive, has_positive}
 use Rattle.ts_spec.specs.State.{Label}
-use Rattle.ts_index.specs.Index.{Labelled}
+use Rattle.ts_index.specs.Index.{Labelled, ids_where}
 use Rattle.ts_index.specs.Bounds.{candidates, fewest}
 use Rattle.ts_index.specs.MostSelective.{IsBest}
 
@@ -29,31 +29,31 @@ min-either a b = go (cases_order a b)
     go (inr (inl less)) = let first : a ≤ b = omega (arith, less) in inl (first, min-first a b first)
     go (inr (inr more)) = let second : b ≤ a = omega (arith, more) in inr (second, min-second a b second)
 
--- what is more than the bound is the bound
-pub min-capped_sum : (count more rest most : ℕ) → min (min (count + more) most + rest) most ≡ min (count + (more + rest)) most
-min-capped_sum count more rest most = go (min-either (count + more) most)
-  where
-    go : (((count + more) ≤ most) × (min (count + more) most ≡ count + more)) ⊎ ((most ≤ (count + more)) × (min (count + more) most ≡ most)) → min (min (count + more) most + rest) most ≡ min (count + (more + rest)) most
-    go (inl both) = ap (λ (n : ℕ). min (n + rest) most) both.1 ∙ ap (λ (n : ℕ). min n most) (let same : count + more + rest ≡ count + (more + rest) = omega arith in same)
-    go (inr both) =
-        let one : most ≤ most + rest = omega arith in
-        let other : most ≤ count + (more + rest) = omega (arith, both.0) in
-        ap (λ (n : ℕ). min (n + rest) most) both.1 ∙ min-second (most + rest) most one ∙ sym (min-second (count + (more + rest)) most other)
+-- ---- the values of a filter, one after another
 
--- the next of some numbers is added
-pub candidate_count-on : {X : Type 0} (g : X → ℕ) (xs : List X) (i : ℕ) (x : X) (count most : ℕ) → i < length xs → x ≡ get_or xs i x
-    → min (min (count + g x) most + sum_by g (drop (i + 1) xs)) most ≡ min (count + sum_by g (drop i xs)) most
-candidate_count-on g xs i x count most inside is =
+-- the number of the next value is added
+pub count-on : {X : Type 0} (g : X → ℕ) (xs : List X) (i : ℕ) (x : X) (count all : ℕ) → i < length xs → x ≡ get_or xs i x
+    → count + sum_by g (drop i xs) ≡ all → count + g x + sum_by g (drop (i + 1) xs) ≡ all
+count-on g xs i x count all inside is so-far =
     let one : suc i ≡ i + 1 = omega arith in
     let next : drop i xs ≡ x ∷ drop (i + 1) xs = drop-cons xs i x inside ∙ (λ j. (sym is) j ∷ drop (one j) xs) in
-    min-capped_sum count (g x) (sum_by g (drop (i + 1) xs)) most
-    ∙ ap (λ (n : ℕ). min (count + n) most) (sym (ap (sum_by g) next ∙ sum_by-cons g x (drop (i + 1) xs)))
+    let rest : sum_by g (drop i xs) ≡ g x + sum_by g (drop (i + 1) xs) = ap (sum_by g) next ∙ sum_by-cons g x (drop (i + 1) xs) in
+    omega (arith, rest, so-far)
 
 -- and after the last one nothing is
-pub candidate_count-all : {X : Type 0} (g : X → ℕ) (xs : List X) (i count most : ℕ) → length xs ≤ i → count ≤ most → min (count + sum_by g (drop i xs)) most ≡ min (sum_by g xs) most → count ≡ min (sum_by g xs) most
-candidate_count-all g xs i count most end few is =
-    let all : count ≡ count + sum_by g (drop i xs) = let empty : sum_by g (drop i xs) ≡ 0 = ap (sum_by g) (drop_all i xs end) in omega (arith, empty) in
-    sym (min-first count most few) ∙ ap (λ (n : ℕ). min n most) all ∙ is
+pub count-all : {X : Type 0} (g : X → ℕ) (xs : List X) (i count all : ℕ) → length xs ≤ i → count + sum_by g (drop i xs) ≡ all → count ≡ all
+count-all g xs i count all end so-far =
+    let empty : sum_by g (drop i xs) ≡ 0 = ap (sum_by g) (drop_all i xs end) in
+    omega (arith, empty, so-far)
+
+-- a filter has no more candidates than there are series
+pub length-where : (test : List Label → Bool) (es : Labelled) → length (ids_where test es) ≤ length es
+length-where test [] = omega arith
+length-where test (e ∷ es) = by (test e.1) (length-where test es)
+  where
+    by : (b : Bool) → length (ids_where test es) ≤ length es → length (if b then record { 0 = e.0 } ∷ ids_where test es else ids_where test es) ≤ length (e ∷ es)
+    by true rest = omega (arith, rest)
+    by false rest = omega (arith, rest)
 
 -- ---- the fewest candidates
 
@@ -66,10 +66,6 @@ fewest-none es (f ∷ fs) lacks = go (is_positive f) (fewest-none es fs) lacks
     go false rest fails = rest fails
 
 -- ---- one filter more
-
--- how many candidates a filter has, up to all numbers
-abbrev pub candidate_count : Labelled → Filter → ℕ
-candidate_count es f = min (candidates es f) (length es)
 
 min-assoc : (a b c : ℕ) → min a (min b c) ≡ min (min a b) c
 min-assoc a b c = go (min-either a b) (min-either b c)
@@ -84,19 +80,13 @@ min-assoc a b c = go (min-either a b) (min-either b c)
         let low : c ≤ a = omega (arith, l.0, m.0) in
         ap (min a) m.1 ∙ min-second a c low ∙ sym (ap (λ (n : ℕ). min n c) l.1 ∙ m.1)
 
-pub fewest-push : (es : Labelled) (fs : List Filter) (f : Filter) → is_positive f ≡ true → fewest es (fs ++ f ∷ []) ≡ min (fewest es fs) (candidate_count es f)
-fewest-push es [] f is =
-    let few : candidate_count es f ≤ length es = by (min-either (candidates es f) (length es)) in
-    rw is (sym (min-second (length es) (candidate_count es f) few))
-  where
-    by : ((candidates es f ≤ length es) × (candidate_count es f ≡ candidates es f)) ⊎ ((length es ≤ candidates es f) × (candidate_count es f ≡ length es)) → candidate_count es f ≤ length es
-    by (inl both) = omega (arith, both.0, both.1)
-    by (inr both) = omega (arith, both.0, both.1)
+pub fewest-push : (es : Labelled) (fs : List Filter) (f : Filter) → is_positive f ≡ true → fewest es (fs ++ f ∷ []) ≡ min (fewest es fs) (candidates es f)
+fewest-push es [] f is = rw is (min_comm (candidates es f) (length es))
 fewest-push es (g ∷ fs) f is = go (is_positive g) (fewest-push es fs f is)
   where
-    go : (b : Bool) → fewest es (fs ++ f ∷ []) ≡ min (fewest es fs) (candidate_count es f)
-        → (if b then min (candidates es g) (fewest es (fs ++ f ∷ [])) else fewest es (fs ++ f ∷ [])) ≡ min (if b then min (candidates es g) (fewest es fs) else fewest es fs) (candidate_count es f)
-    go true rest = ap (min (candidates es g)) rest ∙ min-assoc (candidates es g) (fewest es fs) (candidate_count es f)
+    go : (b : Bool) → fewest es (fs ++ f ∷ []) ≡ min (fewest es fs) (candidates es f)
+        → (if b then min (candidates es g) (fewest es (fs ++ f ∷ [])) else fewest es (fs ++ f ∷ [])) ≡ min (if b then min (candidates es g) (fewest es fs) else fewest es fs) (candidates es f)
+    go true rest = ap (min (candidates es g)) rest ∙ min-assoc (candidates es g) (fewest es fs) (candidates es f)
     go false rest = rest
 
 pub fewest-pass : (es : Labelled) (fs : List Filter) (f : Filter) → is_positive f ≡ false → fewest es (fs ++ f ∷ []) ≡ fewest es fs
@@ -119,7 +109,7 @@ hold-push (g ∷ fs) f labels all =
     (rw (parts.0) rest.0, rest.1)
 
 module _ (es : Labelled) (fs : List Filter) (f : Filter) where
-  -- a filter that asks for fails value changes nothing
+  -- a filter that asks for no value changes nothing
   pub best-pass : (best : Option (Filter × ℕ)) → is_positive f ≡ false → IsBest es fs best → IsBest es (fs ++ f ∷ []) best
   best-pass None fails is = positive-push fs f is fails
   best-pass (Some best) fails is = (
@@ -132,10 +122,10 @@ module _ (es : Labelled) (fs : List Filter) (f : Filter) where
   )
 
   -- nor does one with as many candidates
-  pub best-stays : (best : Filter × ℕ) → is_positive f ≡ true → best.1 ≤ candidate_count es f → IsBest es fs (Some best) → IsBest es (fs ++ f ∷ []) (Some best)
+  pub best-stays : (best : Filter × ℕ) → is_positive f ≡ true → best.1 ≤ candidates es f → IsBest es fs (Some best) → IsBest es (fs ++ f ∷ []) (Some best)
   best-stays best asks least is =
-      let few : fewest es fs ≤ candidate_count es f = omega (arith, is.1, least) in
-      let same : fewest es fs ≡ fewest es (fs ++ f ∷ []) = sym (min-first (fewest es fs) (candidate_count es f) few) ∙ sym (fewest-push es fs f asks) in (
+      let few : fewest es fs ≤ candidates es f = omega (arith, is.1, least) in
+      let same : fewest es fs ≡ fewest es (fs ++ f ∷ []) = sym (min-first (fewest es fs) (candidates es f) few) ∙ sym (fewest-push es fs f asks) in (
         record {
           positive = is.0.positive;
           among = λ labels all. is.0.among labels (hold-push fs f labels all).0;
@@ -145,22 +135,15 @@ module _ (es : Labelled) (fs : List Filter) (f : Filter) where
       )
 
   -- one with fewer is the best
-  more_selective : (count : ℕ) → is_positive f ≡ true → count ≡ candidate_count es f → candidate_count es f ≤ fewest es fs → IsBest es (fs ++ f ∷ []) (Some (f, count))
+  more_selective : (count : ℕ) → is_positive f ≡ true → count ≡ candidates es f → candidates es f ≤ fewest es fs → IsBest es (fs ++ f ∷ []) (Some (f, count))
   more_selective count asks is few =
-      let same : candidate_count es f ≡ fewest es (fs ++ f ∷ []) = sym (min-second (fewest es fs) (candidate_count es f) few) ∙ sym (fewest-push es fs f asks) in
+      let same : candidates es f ≡ fewest es (fs ++ f ∷ []) = sym (min-second (fewest es fs) (candidates es f) few) ∙ sym (fewest-push es fs f asks) in
       (record { positive = asks; among = λ labels all. (hold-push fs f labels all).1; few = same }, is ∙ same)
 
-  candidate_count-few : candidate_count es f ≤ length es
-  candidate_count-few = by (min-either (candidates es f) (length es))
-    where
-      by : ((candidates es f ≤ length es) × (candidate_count es f ≡ candidates es f)) ⊎ ((length es ≤ candidates es f) × (candidate_count es f ≡ length es)) → candidate_count es f ≤ length es
-      by (inl both) = omega (arith, both.0, both.1)
-      by (inr both) = omega (arith, both.0, both.1)
+  pub best-first : (count : ℕ) → is_positive f ≡ true → count ≡ candidates es f → has_positive fs ≡ false → IsBest es (fs ++ f ∷ []) (Some (f, count))
+  best-first count asks is lacks = more_selective count asks is (omega (arith, length-where (holds f) es, fewest-none es fs lacks))
 
-  pub best-first : (count : ℕ) → is_positive f ≡ true → count ≡ candidate_count es f → has_positive fs ≡ false → IsBest es (fs ++ f ∷ []) (Some (f, count))
-  best-first count asks is lacks = more_selective count asks is (omega (arith, candidate_count-few, fewest-none es fs lacks))
-
-  pub best-fewer : (best : Filter × ℕ) (count : ℕ) → is_positive f ≡ true → count ≡ candidate_count es f → count < best.1 → IsBest es fs (Some best) → IsBest es (fs ++ f ∷ []) (Some (f, count))
+  pub best-fewer : (best : Filter × ℕ) (count : ℕ) → is_positive f ≡ true → count ≡ candidates es f → count < best.1 → IsBest es fs (Some best) → IsBest es (fs ++ f ∷ []) (Some (f, count))
   best-fewer best count asks is fewer was = more_selective count asks is (omega (arith, is, fewer, was.1))
 
 -- ---- borrowed filters

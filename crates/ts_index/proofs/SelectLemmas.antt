@@ -1,23 +1,21 @@
 -- The candidates that pass the filters.
-use Rattle.std.proofs.Common.{◌≡◌, ℕ, ◌+◌, ◌*◌, ◌≤◌, ◌==◌, ◌||◌, ◌&&◌, not, Bool, true, false, List, [], ◌∷◌, ◌++◌, length, Option, None, Some, refl, sym, ◌∙◌, ap, subst, arith, if◌then◌else◌, eqb-true, append-nil}
-use Rattle.std.proofs.Math.Nat.{mul-le-mul_left}
+use Rattle.std.proofs.Common.{◌≡◌, ℕ, ◌+◌, ◌*◌, ◌≤◌, ◌==◌, ◌||◌, ◌&&◌, ◌⊎◌, inl, inr, Bool, true, false, List, [], ◌∷◌, ◌++◌, length, Option, None, Some, refl, sym, ◌∙◌, ap, subst, arith, if◌then◌else◌, eqb-true, append-nil}
+use Rattle.std.proofs.Math.Nat.{mul-le-mul_left, mul-le-mul_right}
+use Rattle.std.specs.Prelude.{min}
 use Rattle.std.proofs.lemmas.Bool.{false≢true}
 use Rattle.std.proofs.lemmas.List.Sorted.{list_any-IsPermutation}
 use Rattle.std.specs.List.Sorted.{IsPermutation}
 use Rattle.ts_spec.specs.State.{Label}
-use Rattle.ts_spec.specs.Filter.{Filter, OneOf, NoneOf, Absent, Present, value_of, has_one_of, holds, all_hold, is_positive}
-use Rattle.ts_labels.specs.Filter.{label_of, required_values}
+use Rattle.ts_spec.specs.Filter.{Filter, holds, all_hold, is_positive}
 use Rattle.ts_sample.specs.declared.sample.Id.{Id}
-use Rattle.ts_index.specs.Bounds.{fewest}
-use Rattle.ts_index.specs.Candidates.{posting_union, AreApart, Covers}
+use Rattle.ts_index.specs.Bounds.{candidates, fewest}
+use Rattle.ts_index.specs.Candidates.{AreApart, Covers}
 use Rattle.ts_index.specs.Index.{Labelled, labels_of, ids_where}
-use Rattle.ts_index.specs.MostSelective.{IsMostSelective}
 use Rattle.ts_index.specs.Numbers.{AreInOrder, has_id, pass}
 use Rattle.ts_index.specs.Selecting.{AreSelected}
 use Rattle.ts_index.proofs.ApartLemmas.{apart-permuted}
-use Rattle.ts_index.proofs.CandidateLemmas.{has_unseen, has_id-posting_union, posting_union-apart}
-use Rattle.ts_index.proofs.ChoiceLemmas.{by_narrowest}
 use Rattle.ts_index.proofs.MemberLemmas.{same_numbers}
+use Rattle.ts_index.proofs.NarrowLemmas.{min-either, length-where}
 use Rattle.ts_index.proofs.NumberLemmas.{has_id-where, AreAscending-where}
 use Rattle.ts_index.proofs.OrderLemmas.{AreSorted, ascending}
 
@@ -81,13 +79,18 @@ pub selected-all : (test : List Label → Bool) (es : Labelled) (ids rest : List
 selected-all test es ids rest e h = subst (AreSelected test es) (ap (λ r. ids ++ r) e ∙ append-nil ids) h
 
 -- there are steps for no more than the fewest
-pub steps-start : (each : ℕ) (is : List Id) (fewest now : ℕ) → length is ≤ fewest → now + each * length is ≤ now + each * fewest
-steps-start each is fewest now few = let more : each * length is ≤ each * fewest = mul-le-mul_left each few in omega (arith, more)
+pub steps-start : (each all : ℕ) (is : List Id) (fewest now : ℕ) → each ≤ all → length is ≤ fewest → now + each * length is ≤ now + all * fewest
+steps-start each all is fewest now less few =
+    let more : each * length is ≤ each * fewest = mul-le-mul_left each few in
+    let other : each * fewest ≤ all * fewest = mul-le-mul_right fewest less in
+    omega (arith, more, other)
 
 -- before the first
-pub selected-start : (fs : List Filter) (es : Labelled) (ids is rest : List Id) → ids ≡ [] → rest ≡ is → AreApart is → Covers es fs is
-    → AreSelected (all_hold fs) es (ids ++ chosen (all_hold fs) es rest)
-selected-start fs es ids is rest e r a covers = rw (e, r) (selected-of fs es is a covers)
+pub selected-start : (test : List Label → Bool) (fs : List Filter) (es : Labelled) (ids is rest : List Id) → ((labels : List Label) → test labels ≡ all_hold fs labels)
+    → ids ≡ [] → rest ≡ is → AreApart is → Covers es fs is → AreSelected (all_hold fs) es (ids ++ chosen test es rest)
+selected-start test fs es ids is rest same e r a covers =
+    let tests : test ≡ all_hold fs = λ i labels. same labels i in
+    rw (e, r, tests) (selected-of fs es is a covers)
 
 -- there is capacity for no more than the fewest
 pub room-start : (held : ℕ) (is : List Id) (fewest room : ℕ) → held ≡ 0 → length is ≤ fewest → fewest ≤ room → held + length is ≤ room
@@ -95,41 +98,56 @@ room-start held is fewest room e few enough = omega (arith, e, few, enough)
 
 -- ---- by a filter that requires a value
 
--- labels pass it exactly where they have one of the values that it requires
-pass-wanted : (f : Filter) (labels : List Label) → is_positive f ≡ true → has_unseen (label_of f) [] (required_values f) labels ≡ all_hold (f ∷ []) labels
-pass-wanted (OneOf label values) labels p = by (value_of label labels)
+-- those that pass two tests are no more than those that pass one of them
+length-both : (a b : List Label → Bool) (es : Labelled)
+    → (length (ids_where (λ labels. a labels && b labels) es) ≤ length (ids_where a es)) × (length (ids_where (λ labels. a labels && b labels) es) ≤ length (ids_where b es))
+length-both a b [] = (omega arith, omega arith)
+length-both a b (e ∷ es) = let rest = length-both a b es in by (a e.1) (b e.1) rest.0 rest.1
   where
-    by : (there : Option (List ℕ)) → (has_one_of values there && not (has_one_of [] there)) ≡ (has_one_of values there && true)
-    by None = refl
-    by (Some w) = refl
-pass-wanted (NoneOf label values) labels p = absurd (false≢true p)
-pass-wanted (Absent label) labels p = absurd (false≢true p)
-pass-wanted (Present label) labels p = absurd (false≢true p)
+    by : (s t : Bool) → length (ids_where (λ labels. a labels && b labels) es) ≤ length (ids_where a es) → length (ids_where (λ labels. a labels && b labels) es) ≤ length (ids_where b es)
+        → (length (if s && t then record { 0 = e.0 } ∷ ids_where (λ labels. a labels && b labels) es else ids_where (λ labels. a labels && b labels) es) ≤ length (if s then record { 0 = e.0 } ∷ ids_where a es else ids_where a es))
+        × (length (if s && t then record { 0 = e.0 } ∷ ids_where (λ labels. a labels && b labels) es else ids_where (λ labels. a labels && b labels) es) ≤ length (if t then record { 0 = e.0 } ∷ ids_where b es else ids_where b es))
+    by true true l m = (omega (arith, l), omega (arith, m))
+    by true false l m = (omega (arith, l), m)
+    by false true l m = (l, omega (arith, m))
+    by false false l m = (l, m)
 
--- those that have one of its values are those that pass it
-pub selected-wanted : (f : Filter) (es : Labelled) → AreInOrder es → is_positive f ≡ true → AreSelected (all_hold (f ∷ [])) es (posting_union (label_of f) [] (required_values f) es)
-selected-wanted f es o p = record {
-  once = posting_union-apart (label_of f) [] (required_values f) es o;
-  which = λ q. has_id-posting_union (label_of f) [] (required_values f) es o q ∙ at (labels_of q es);
-}
+-- those that pass all filters are no more than the fewest candidates
+selected-few : (fs : List Filter) (es : Labelled) → length (ids_where (all_hold fs) es) ≤ fewest es fs
+selected-few [] es = length-where (all_hold []) es
+selected-few (f ∷ fs) es = let both = length-both (holds f) (all_hold fs) es in by (is_positive f) both.0 both.1 (selected-few fs es)
   where
-    at : (labels : Option (List Label)) → pass (has_unseen (label_of f) [] (required_values f)) labels ≡ pass (all_hold (f ∷ [])) labels
-    at None = refl
-    at (Some labels) = pass-wanted f labels p
+    least : (n a b : ℕ) → n ≤ a → n ≤ b → n ≤ min a b
+    least n a b l m = go (min-either a b)
+      where
+        go : ((a ≤ b) × (min a b ≡ a)) ⊎ ((b ≤ a) × (min a b ≡ b)) → n ≤ min a b
+        go (inl h) = omega (arith, h.1, l)
+        go (inr h) = omega (arith, h.1, m)
 
--- it is the most selective one
-only-most_selective : (f : Filter) (es : Labelled) → is_positive f ≡ true → IsMostSelective es (f ∷ []) f
-only-most_selective f es p = record { positive = p; among = λ labels h. first (holds f labels) h; few = rw (p) refl }
+    by : (b : Bool) → length (ids_where (all_hold (f ∷ fs)) es) ≤ candidates es f → length (ids_where (all_hold (f ∷ fs)) es) ≤ length (ids_where (all_hold fs) es)
+        → length (ids_where (all_hold fs) es) ≤ fewest es fs → length (ids_where (all_hold (f ∷ fs)) es) ≤ (if b then min (candidates es f) (fewest es fs) else fewest es fs)
+    by true own others rest = least (length (ids_where (all_hold (f ∷ fs)) es)) (candidates es f) (fewest es fs) own (omega (arith, others, rest))
+    by false own others rest = omega (arith, others, rest)
+
+-- where a filter asks what all ask, those that pass it are no more than the fewest candidates
+pub few-matching : (f : Filter) (fs : List Filter) (es : Labelled) (is all : List Id) → ((labels : List Label) → holds f labels ≡ all_hold fs labels)
+    → is ≡ all → length all ≡ candidates es f → length is ≤ fewest es fs
+few-matching f fs es is all same e count =
+    let tests : candidates es f ≡ length (ids_where (all_hold fs) es) = ap (λ (test : List Label → Bool). length (ids_where test es)) (λ i labels. same labels i) in
+    omega (arith, ap (λ (ids : List Id). length ids) e, count, tests, selected-few fs es)
+
+-- and they are selected
+pub matching-start : (f : Filter) (fs : List Filter) (es : Labelled) (ids is all : List Id) → ((labels : List Label) → holds f labels ≡ all_hold fs labels)
+    → ids ≡ [] → is ≡ all → AreSelected (holds f) es all → AreSelected (all_hold fs) es (ids ++ is)
+matching-start f fs es ids is all same e r selected =
+    let tests : holds f ≡ all_hold fs = λ i labels. same labels i in
+    rw (e, r) (subst (λ (test : List Label → Bool). AreSelected test es all) tests selected)
+
+-- where there is one test, it asks what all filters ask
+pub only-asked : (tests fs : List Filter) (f : Filter) → tests ≡ f ∷ [] → ((labels : List Label) → all_hold tests labels ≡ all_hold fs labels)
+    → (labels : List Label) → holds f labels ≡ all_hold fs labels
+only-asked tests fs f e same labels = sym (and-true (holds f labels)) ∙ ap (λ (gs : List Filter). all_hold gs labels) (sym e) ∙ same labels
   where
-    first : (b : Bool) → (b && true) ≡ true → b ≡ true
-    first true h = refl
-    first false h = h
-
--- there are no more of them than candidates
-pub few-wanted : (f : Filter) (es : Labelled) (is : List Id) → AreInOrder es → is_positive f ≡ true → is ≡ posting_union (label_of f) [] (required_values f) es → length is ≤ fewest es (f ∷ [])
-few-wanted f es is o p e = (by_narrowest es (f ∷ []) f is o (only-most_selective f es p) e).few
-
--- before the first of them
-pub wanted-start : (f : Filter) (es : Labelled) (ids is : List Id) → AreInOrder es → is_positive f ≡ true → ids ≡ [] → is ≡ posting_union (label_of f) [] (required_values f) es
-    → AreSelected (all_hold (f ∷ [])) es (ids ++ is)
-wanted-start f es ids is o p e same = rw (e, same) (selected-wanted f es o p)
+    and-true : (b : Bool) → (b && true) ≡ b
+    and-true true = refl
+    and-true false = refl

@@ -1,14 +1,13 @@
 -- How many ids a selection looks at, and how often it tests a filter.
-use Rattle.std.specs.Prelude.{ℕ, ◌*◌, min, if◌then◌else◌, List, [], ◌∷◌, length, sum_by}
-use Rattle.ts_spec.specs.Filter.{Filter, is_positive}
-use Rattle.ts_labels.specs.Filter.{label_of, required_values}
-use Rattle.ts_index.specs.Index.{Labelled, ids_where, has_pair}
+use Rattle.std.specs.Prelude.{ℕ, ◌*◌, min, if◌then◌else◌, List, [], ◌∷◌, length}
+use Rattle.ts_spec.specs.Filter.{Filter, holds, is_positive}
+use Rattle.ts_index.specs.Index.{Labelled, ids_where}
 
--- the number of candidates of a filter: the lengths of its posting lists, added up
+-- the number of candidates of a filter: the series that pass it
 abbrev pub candidates : Labelled → Filter → ℕ
-candidates es f = sum_by (λ value. length (ids_where (has_pair (label_of f) value) es)) (required_values f)
+candidates es f = length (ids_where (holds f) es)
 
--- the fewest candidates of a filter that requires a value, capped at the number of series
+-- the fewest candidates of a filter that requires a value, or the number of series if no filter does
 abbrev pub fewest : Labelled → List Filter → ℕ
 fewest es [] = length es
 fewest es (f ∷ fs) = if is_positive f then min (candidates es f) (fewest es fs) else fewest es fs

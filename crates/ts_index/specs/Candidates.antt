@@ -1,15 +1,15 @@
--- The ids that have one of several values.
-use Rattle.std.specs.Prelude.{◌≡◌, ℕ, false, true, ⊤, if◌then◌else◌, List, [], ◌∷◌, ◌++◌, IsSome, Some}
-use Rattle.ts_spec.specs.Filter.{Filter, is_one_of, all_hold}
+-- The candidates of a selection.
+use Rattle.std.specs.Prelude.{◌≡◌, ℕ, false, true, ⊤, List, [], ◌∷◌, ◌++◌, IsSome, Some}
+use Rattle.ts_spec.specs.Filter.{Filter, all_hold}
 use Rattle.ts_spec.specs.State.{Label}
 use Rattle.ts_sample.specs.declared.sample.Id.{Id}
 use Rattle.ts_index.specs.Index.{Labelled, labels_of, ids_where, has_pair}
 use Rattle.ts_index.specs.Numbers.{has_id}
 
--- the posting lists of these values, one after another; a repeated value is skipped
-abbrev pub posting_union : (label : List ℕ) → (seen values : List (List ℕ)) → Labelled → List Id
-posting_union label seen [] es = []
-posting_union label seen (v ∷ vs) es = (if is_one_of seen v then [] else ids_where (has_pair label v) es) ++ posting_union label (seen ++ v ∷ []) vs es
+-- the posting lists of these values, one after another
+abbrev pub postings : (label : List ℕ) → (values : List (List ℕ)) → Labelled → List Id
+postings label [] es = []
+postings label (v ∷ vs) es = ids_where (has_pair label v) es ++ postings label vs es
 
 -- all ids differ
 abbrev pub AreApart : List Id → Type 0

@@ -1,5 +1,5 @@
 -- The filter with the fewest candidates.
-use Rattle.std.specs.Prelude.{◌≡◌, ℕ, true, false, List, length, min, Option, None, Some}
+use Rattle.std.specs.Prelude.{◌≡◌, ℕ, true, false, List, Option, None, Some}
 use Rattle.ts_spec.specs.Filter.{Filter, holds, all_hold, is_positive, has_positive}
 use Rattle.ts_spec.specs.State.{Label}
 use Rattle.ts_index.specs.Index.{Labelled}
@@ -9,7 +9,7 @@ use Rattle.ts_index.specs.Bounds.{candidates, fewest}
 pub record IsMostSelective (es : Labelled) (fs : List Filter) (f : Filter) : Type 0 where
   pub positive : is_positive f ≡ true
   pub among : (labels : List Label) → all_hold fs labels ≡ true → holds f labels ≡ true
-  pub few : min (candidates es f) (length es) ≡ fewest es fs
+  pub few : candidates es f ≡ fewest es fs
 
 -- the most selective filter with its number of candidates, or none if no filter requires a value
 abbrev pub IsBest : Labelled → List Filter → Option (Filter × ℕ) → Type 0

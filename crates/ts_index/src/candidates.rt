@@ -1,10 +1,11 @@
 // The series that might pass a query's filters.
-ghost use Rattle.std.specs.Prelude.{◌≡◌, ◌≤◌, [], length, map};
+ghost use Rattle.std.specs.Prelude.{◌≡◌, ◌≤◌, true, length, map};
 ghost use Rattle.std.specs.Iterator.{YieldsFirst, item_count};
 ghost use Rattle.std.specs.Map.{keys_of};
-ghost use Rattle.ts_labels.specs.Filter.{label_of, required_values};
-ghost use Rattle.ts_index.specs.Bounds.{fewest};
-ghost use Rattle.ts_index.specs.Candidates.{posting_union, AreApart, AreLive, Covers};
+ghost use Rattle.ts_spec.specs.Filter.{holds, is_positive};
+ghost use Rattle.ts_index.specs.Bounds.{candidates, fewest};
+ghost use Rattle.ts_index.specs.Candidates.{AreApart, AreLive, Covers};
+ghost use Rattle.ts_index.specs.Selecting.{AreSelected};
 ghost use Rattle.ts_index.specs.Source.{as_id};
 
 use crate::index::Index;
@@ -75,12 +76,15 @@ impl Index {
     }
 }
 
-// The series that have one of the values that the filter requires.
+// The series that have one of the values that the filter requires: exactly those that pass it.
 pub(crate) fn by_value<'a>(index: &'a Index, filter: &'a Filter) -> Candidates<'a>
-    ensures { result ≡ posting_union (label_of filter.now) [] (required_values filter.now) index.now }
+    requires positive { is_positive filter.now ≡ true }
+    ensures selected { AreSelected (holds filter.now) index.now result }
+    ensures count { length result ≡ candidates index.now filter.now }
 {
+    index.known();
     Candidates {
-        source: Source::ByValue(PostingList::new(index, filter)),
+        source: Source::ByValue(PostingList::new(index, filter.label(), filter.values())),
     }
 }
 

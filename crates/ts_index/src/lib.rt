@@ -2,6 +2,7 @@
 #![tactic(auto)]
 
 mod candidates;
+mod distinct;
 mod index;
 mod lists;
 mod most_selective;

@@ -1,6 +1,6 @@
 // Finds the most selective filter.
-ghost use Rattle.std.specs.Prelude.{◌≡◌, ◌+◌, ◌<◌, ◌^◌, ◌∷◌, ◌++◌, [], List, length, min, option_map, IfSome, IfNone};
-ghost use Rattle.ts_spec.specs.Filter.{Filter as Asked};
+ghost use Rattle.std.specs.Prelude.{◌≡◌, ◌<◌, ◌^◌, true, ◌∷◌, ◌++◌, [], List, length, option_map, IfSome, IfNone};
+ghost use Rattle.ts_spec.specs.Filter.{Filter as Asked, is_positive};
 ghost use Rattle.ts_index.specs.Bounds.{candidates, fewest};
 ghost use Rattle.ts_index.specs.MostSelective.{IsBest, IsMostSelective};
 
@@ -16,16 +16,17 @@ impl Index {
         self.labels.len()
     }
 
-    // The number of candidates of a filter, capped at the number of series.
+    // The number of candidates of a filter that requires a value.
     fn candidate_count(&self, filter: &Filter) -> usize
-        ensures { result ≡ min (candidates self.now filter.now) (length self.now) }
+        requires { is_positive filter.now ≡ true }
+        ensures { result ≡ candidates self.now filter.now }
     {
-        let all = self.len();
+        let _all = self.len();
         let label = filter.label();
-        let values = filter.wanted();
+        let values = filter.values();
         let mut count = 0;
         for value in values {
-            count = capped_sum(count, self.posting(label, value).len(), all);
+            count += self.posting(label, value).len();
         }
         count
     }
@@ -45,7 +46,7 @@ impl Index {
         }
     }
 
-    // The number of candidates of the most selective filter, capped at the number of series.
+    // The number of candidates of the most selective filter, or the number of series.
     pub(crate) fn fewest(&self, filters: &[Filter]) -> usize
         ensures { result ≡ fewest self.now filters.now }
     {
@@ -76,11 +77,4 @@ impl Index {
         }
         Some((filter, count))
     }
-}
-
-// The sum, capped at `most`.
-fn capped_sum(count: usize, more: usize, most: usize) -> usize
-    ensures { result ≡ min (count + more) most }
-{
-    count.saturating_add(more).min(most)
 }

@@ -1,3 +1,5 @@
 pub mod LabelLemmas
 pub mod PairLemmas
+pub mod SameLemmas
 pub mod TextLemmas
+pub mod ValueLemmas

@@ -6,7 +6,7 @@ use Rattle.ts_labels.specs.declared.filter.LabelCondition.TheVariants.{OneOf, No
 
 -- the filter with this condition on the label
 abbrev pub filter_in : (label : List ℕ) → LabelCondition → spec.Filter
-filter_in label (OneOf values) = spec.OneOf label values.items
-filter_in label (NoneOf values) = spec.NoneOf label values.items
+filter_in label (OneOf values) = spec.OneOf label values
+filter_in label (NoneOf values) = spec.NoneOf label values
 filter_in label Absent = spec.Absent label
 filter_in label Present = spec.Present label

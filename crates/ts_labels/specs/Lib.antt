@@ -2,6 +2,7 @@ pub mod Spec
 pub mod Labels
 pub mod Pairs
 pub mod LabelCondition
+pub mod Values
 pub mod Filter
 pub mod Faults
 pub mod FaultNames

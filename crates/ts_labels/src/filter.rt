@@ -1,11 +1,15 @@
 // Label filters.
-ghost use Rattle.std.specs.Prelude.{◌≡◌, ◌+◌};
+ghost use Rattle.std.specs.Prelude.{◌≡◌, ◌+◌, List};
 ghost use Rattle.std.specs.Option.{option_copied};
 ghost use Rattle.ts_spec.specs.Filter.{holds, is_positive, has_positive, has_one_of};
 ghost use Rattle.ts_spec.specs.FilterText.{filter_by};
-ghost use Rattle.ts_labels.specs.Filter.{label_of, required_values};
+ghost use Rattle.ts_spec.specs.State.{Label};
+ghost use Rattle.ts_labels.specs.Filter.{label_of, required_values, values_of, kind_of};
+ghost use Rattle.ts_labels.specs.Values.{AreAlike, AreOnce};
 
 use crate::labels::Labels;
+use crate::values::Values;
+use std::cmp::Ordering;
 use std::marker::Model;
 use std::sync::ledger::Ledger;
 use ts_resp::Word;
@@ -15,9 +19,9 @@ use ts_sample::Steps;
 #[derive(Debug, Drop)]
 pub(crate) enum LabelCondition {
     // The label has one of these values.
-    OneOf(Vec<Word>),
+    OneOf(Values),
     // The label is missing, or has none of these values.
-    NoneOf(Vec<Word>),
+    NoneOf(Values),
     Absent,
     Present,
 }
@@ -42,8 +46,8 @@ impl Model for Filter {
 
 impl Filter {
     // Builds a filter. Without values it tests only whether the label is present (or missing, if `positive`).
-    pub(crate) fn by(positive: bool, label: Word, values: Vec<Word>) -> Filter
-        ensures { result ≡ filter_by positive label values.items }
+    pub(crate) fn by(positive: bool, label: Word, values: Values) -> Filter
+        ensures { result ≡ filter_by positive label values }
     {
         let asks = match (positive, values.is_empty()) {
             (true, true) => LabelCondition::Absent,
@@ -61,13 +65,53 @@ impl Filter {
         &self.label
     }
 
-    /// The accepted values. Empty for a filter that does not require a value.
+    /// The accepted values, as the filter names them. Empty for a filter that does not require a value.
     pub fn wanted(&self) -> &[Word]
         ensures { result.now ≡ required_values self.now }
     {
         match &self.asks {
             LabelCondition::OneOf(values) => values.as_slice(),
             _ => &[],
+        }
+    }
+
+    /// The values that the filter names, each once.
+    pub fn values(&self) -> &[Word]
+        ensures alike { AreAlike result.now (values_of self.now) }
+        ensures once { AreOnce result.now }
+    {
+        match &self.asks {
+            LabelCondition::OneOf(values) => values.each_once(),
+            LabelCondition::NoneOf(values) => values.each_once(),
+            LabelCondition::Absent => &[],
+            LabelCondition::Present => &[],
+        }
+    }
+
+    // A number for each kind of condition.
+    fn kind(&self) -> u8
+        ensures { result ≡ kind_of self.now }
+    {
+        match &self.asks {
+            LabelCondition::OneOf(_) => 0,
+            LabelCondition::NoneOf(_) => 1,
+            LabelCondition::Absent => 2,
+            LabelCondition::Present => 3,
+        }
+    }
+
+    /// Orders filters so that those that ask the same are equal: by label, by condition, and by values, whose order and
+    /// repetitions do not count.
+    pub fn compare(&self, other: &Filter) -> Ordering
+        ensures { result ≡ Ordering.Equal → (labels : List Label) → holds self.now labels ≡ holds other.now labels }
+    {
+        match self.label().cmp(other.label()) {
+            Ordering::Equal => (),
+            different => return different,
+        }
+        match self.kind().cmp(&other.kind()) {
+            Ordering::Equal => self.values().cmp(other.values()),
+            different => different,
         }
     }
 
@@ -95,7 +139,7 @@ impl Filter {
 }
 
 // Whether the label has one of these values.
-fn has_one_of(values: &[Word], value: Option<&Word>) -> bool
+fn has_one_of(values: &Values, value: Option<&Word>) -> bool
     ensures { result ≡ has_one_of values.now (option_copied value.entry) }
 {
     let Some(value) = value else {

@@ -7,6 +7,7 @@ ghost use Rattle.ts_labels.specs.FaultNames.{name_of};
 ghost use Rattle.ts_labels.specs.Faults.{IsFaultOf, IsMemory, list_values};
 
 use crate::filter::Filter;
+use crate::values::Values;
 use std::alloc::{AllocError, Global};
 use std::fmt;
 use thiserror::Error;
@@ -72,8 +73,19 @@ fn of_label(
     if label.is_empty() {
         return Err(FilterFault::EmptyLabel);
     }
-    let values = values_of(alloc, value)?;
+    let values = sorted(alloc, values_of(alloc, value)?)?;
     Ok(Filter::by(positive, word(alloc, label)?, values))
+}
+
+// The values, to be searched.
+fn sorted(alloc: Global, values: Vec<Word>) -> Result<Values, FilterFault>
+    ensures ok { IfOk result (λ sorted. sorted ≡ values.items) }
+    ensures fault { IfErr result IsMemory }
+{
+    match Values::new(alloc, values) {
+        Ok(sorted) => Ok(sorted),
+        Err(error) => Err(FilterFault::Memory(error)),
+    }
 }
 
 // The values after the operator: none, one, or a list in parentheses.

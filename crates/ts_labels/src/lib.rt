@@ -6,6 +6,7 @@ mod filter_text;
 mod labels;
 mod pairs;
 mod spec;
+mod values;
 
 pub use filter::{Filter, has_positive};
 pub use filter_text::FilterFault;

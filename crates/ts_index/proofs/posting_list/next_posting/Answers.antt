@@ -1,6 +1,6 @@
-use Rattle.std.proofs.Common.{◌≡◌, ◌+◌, ◌∙◌, ◌++◌, [], length, take, drop, ap, sym, arith, eqb-true}
-use Rattle.ts_index.specs.Candidates.{posting_union}
-use Rattle.ts_index.proofs.ValueLemmas.{posting_union-next, there, none-left}
+use Rattle.std.proofs.Common.{◌≡◌, ◌+◌, ◌∙◌, ◌++◌, [], length, drop, ap, sym, arith, eqb-true}
+use Rattle.ts_index.specs.Candidates.{postings}
+use Rattle.ts_index.proofs.ValueLemmas.{postings-next, none-left}
 use Rattle.ts_index.proofs.posting_list.next_posting.Goals as goal
 
 pub loop-found-preserved : goal.loop-found-preserved
@@ -9,13 +9,12 @@ loop-found-preserved c =
     let label = c.args.label.now in
     let es = c.args.index.now in
     let k = c.loop-found.passed in
-    let w = there values k c.if-passed-values.true in
     let found = c.loop-found.found.now in
     let empty : found ≡ [] = none-left found (eqb-true (length found) 0 (sym c.is_empty.ensures ∙ c.loop-found-test.true)) in
     record {
       passed = omega arith;
-      left = ap (λ r. r ++ posting_union label (take (k + 1) values) (drop (k + 1) values) es) (c.unseen_posting-found.ensures w.0 w.1)
-          ∙ sym (posting_union-next label values k w.0 es w.1)
-          ∙ ap (λ f. f ++ posting_union label (take k values) (drop k values) es) (sym empty)
+      left = ap (λ r. r ++ postings label (drop (k + 1) values) es) c.posting-found.ensures
+          ∙ sym (postings-next label values k c.index-values-passed.result es c.if-passed-values.true c.index-values-passed.is)
+          ∙ ap (λ f. f ++ postings label (drop k values) es) (sym empty)
           ∙ c.loop-found.invariant.left;
     }

@@ -1,34 +1,23 @@
-use Rattle.std.proofs.Common.{◌≡◌, ℕ, ◌+◌, ◌∙◌, List, drop, length, min, ap, arith}
-use Rattle.std.proofs.Math.Nat.{min-le_right}
-use Rattle.std.specs.List.{sum_by}
-use Rattle.ts_labels.specs.Filter.{label_of}
+use Rattle.std.proofs.Common.{◌≡◌, ◌≤◌, ◌+◌, ◌∙◌, ℕ, List, drop, length, ap, zero-add, arith}
+use Rattle.ts_spec.specs.Filter.{holds}
 use Rattle.ts_index.specs.Index.{ids_where, has_pair}
-use Rattle.ts_index.proofs.NarrowLemmas.{candidate_count-on, candidate_count-all}
+use Rattle.ts_index.specs.Bounds.{candidates}
+use Rattle.ts_index.proofs.CandidateLemmas.{total, count-filter}
+use Rattle.ts_index.proofs.NarrowLemmas.{count-on, length-where}
 use Rattle.ts_index.proofs.index.Index.candidate_count.Goals as goal
-use Rattle.ts_index.proofs.index.Index.candidate_count.Goals.{After-loop-value, After-capped_sum-count}
 
--- how many numbers have a value
-abbrev many : (c : After-loop-value) → List ℕ → ℕ
-many c value = length (ids_where (has_pair (label_of c.args.filter.now) value) c.args.self.now)
+pub loop-value-init : goal.loop-value-init
+loop-value-init c =
+    zero-add (total c.label-label.result.now c.args.self.now c.values-values.result.now)
+    ∙ count-filter c.args.filter.now c.label-label.result.now c.values-values.result.now c.args.self.now c.requires c.label-label.ensures c.values-values.ensures.alike c.values-values.ensures.once
 
-pub returns : goal.returns
-returns c =
-    let values = c.wanted-values.result.now in
-    candidate_count-all (many c) values c.loop-value.value-index c.loop-value.count c.len-all.result c.loop-value-test.false c.loop-value.invariant.few c.loop-value.invariant.sum
-    ∙ (λ i. min (sum_by (many c) (c.wanted-values.ensures i)) (c.len-all.ensures.len i))
-
-pub loop-value-preserved : goal.loop-value-preserved
-loop-value-preserved c =
-    let values = c.wanted-values.result.now in
-    let one = λ (value : List ℕ). length (ids_where (has_pair (label_of c.args.filter.now) value) c.args.self.now) in
-    let here : length c.posting.result.now ≡ one c.value-item.result =
-    ap length c.posting.ensures ∙ ap (λ (label : List ℕ). length (ids_where (has_pair label c.value-item.result) c.args.self.now)) c.label-label.ensures in
-    let count : c.capped_sum-count.result ≡ min (c.loop-value.count + one c.value-item.result) c.len-all.result =
-    c.capped_sum-count.ensures ∙ ap (λ (n : ℕ). min (c.loop-value.count + n) c.len-all.result) here in
-    record {
-      sum =
-          ap (λ (n : ℕ). min (n + sum_by one (drop (c.loop-value.value-index + 1) values)) c.len-all.result) count
-          ∙ candidate_count-on one values c.loop-value.value-index c.value-item.result c.loop-value.count c.len-all.result c.loop-value-test.true c.value-item.is
-          ∙ c.loop-value.invariant.sum;
-      few = omega (arith, count, min-le_right (c.loop-value.count + one c.value-item.result) c.len-all.result);
-    }
+pub overflow_add-count : goal.overflow_add-count
+overflow_add-count c =
+    let es = c.args.self.now in
+    let values = c.values-values.result.now in
+    let one = λ (value : List ℕ). length (ids_where (has_pair c.label-label.result.now value) es) in
+    let here : length c.posting.result.now ≡ one c.value-item.result = ap length c.posting.ensures in
+    let so-far : c.loop-value.count + one c.value-item.result + total c.label-label.result.now es (drop (c.loop-value.value-index + 1) values) ≡ candidates es c.args.filter.now =
+    count-on one values c.loop-value.value-index c.value-item.result c.loop-value.count (candidates es c.args.filter.now) c.loop-value-test.true c.value-item.is c.loop-value.invariant in
+    let few : candidates es c.args.filter.now ≤ length es = length-where (holds c.args.filter.now) es in
+    omega (arith, here, so-far, few, c.len-all.ensures.len, c.len-all.ensures.small)
