@@ -11,7 +11,7 @@ use Rattle.ts_spec.specs.declared.limits.Limits.{Limits}
 use Rattle.ts_spec.proofs.Untaken.{triple-told}
 use Rattle.ts_db.specs.DbState.{DbState}
 use Rattle.ts_journal.specs.Record.{is_number, items_of}
-use Rattle.ts_journal.specs.RecordReplay.{IsTripleWritten, ExecutesTriple, ExecutesTriples, IsDone}
+use Rattle.ts_journal.specs.RecordReplay.{ExecutesTriple, ExecutesTriples, IsDone}
 use Rattle.ts_journal.specs.RecordReplay as journal
 use Rattle.ts_execution.specs.Handling.{IsStep, HasItem, HaveItems, IsAnswered}
 

@@ -1,41 +1,35 @@
 -- A host over the journal that was loaded, and in memory alone.
-use Rattle.std.specs.Prelude.{All, Option, None, Some, Ok, Err}
-use Rattle.std.proofs.Common.{◌≡◌, ◌⊎◌, inl, inr, ◌≤◌, ◌<◌, ◌+◌, ℕ, Bool, true, false, if◌then◌else◌, List, [], ◌∷◌, ◌++◌, length, take, refl, sym, ◌∙◌, ap, subst, arith}
-use Rattle.std.proofs.lemmas.Bool.{le-leb, lt-leb}
+use Rattle.std.specs.Prelude.{Option, None, Some, Ok}
+use Rattle.std.proofs.Common.{◌≡◌, inl, inr, ◌≤◌, ◌<◌, ◌+◌, ℕ, false, List, [], ◌∷◌, ◌++◌, length, take, refl, sym, ◌∙◌, ap, subst, arith}
 use Rattle.std.proofs.lemmas.List.Elements.{All-nil}
-use Rattle.std.specs.Option.{option_map}
-use Rattle.ts_io.specs.Causes.{Rose}
 use Rattle.ts_io.specs.declared.hub.Step.{Step}
-use Rattle.ts_io.specs.declared.hub.Step.TheVariants.{Comes, Pauses}
 use Rattle.ts_io.proofs.Adding.{adds_none}
 use Rattle.ts_spec.specs.State.{State, empty}
 use Rattle.ts_spec.specs.StreamPrefixes.{IsWithin}
 use Rattle.ts_spec.specs.declared.limits.Limits.{Limits}
 use Rattle.ts_db.specs.DbState.{DbState}
 use Rattle.ts_journal.specs.Limits.{IsBounded}
-use Rattle.ts_journal.specs.Loading.{Load, Loads, BreaksAt, load}
+use Rattle.ts_journal.specs.Loading.{Loads, load}
 use Rattle.ts_words.specs.declared.status.Status.{Status}
 use Rattle.ts_words.specs.declared.status.Status.TheVariants as status
-use Rattle.ts_execution.specs.Journaling.{Snapshot, IsJournaled, kept}
+use Rattle.ts_execution.specs.Journaling.{Snapshot, kept}
 use Rattle.ts_host.specs.Causes.{Faults}
 use Rattle.ts_host.specs.Http.{closes}
-use Rattle.ts_host.specs.Steps.{Takes, frames_of, weight, weight_of_step}
+use Rattle.ts_host.specs.Steps.{Takes, frames_of, weight}
 use Rattle.ts_host.specs.declared.host.HostFault.TheVariants as fault
 use Rattle.ts_host.specs.declared.serving.HubEnd.{HubEnd}
 use Rattle.ts_host.specs.declared.serving.HubEnd.TheVariants as served
 use Rattle.ts_engine.specs.declared.host_end.HostEnd.{HostEnd}
 use Rattle.ts_engine.specs.declared.host_end.HostEnd.TheVariants as end
-use Rattle.ts_engine.specs.declared.journaling.JournalEnd.{JournalEnd}
-use Rattle.ts_engine.specs.declared.journaling.JournalEnd.TheVariants as journal
 use Rattle.ts_engine.specs.Answered.{IsOutOfMemoryOr}
 use Rattle.ts_engine.specs.HostEnds.{HasHostCauses, NoHostFault, status_of}
 use Rattle.ts_engine.specs.HostPrefixes.{HostRun, HostPrefixes}
 use Rattle.ts_engine.specs.Hosted.{HostView, AllAnswered, SomeAnswered, Answered, Served, EndsFrom, run_of_all, run_of_some, no_run, run_answered, run_of, world_loaded, EndsLoaded, EndsOver, status_hosted}
-use Rattle.ts_engine.specs.Journaled.{IsOpened, is_load_fault, status_loaded}
-use Rattle.ts_engine.specs.Journaled as journaled
+use Rattle.ts_engine.specs.Opening.{IsOpened, unloaded_status}
 use Rattle.ts_engine.proofs.HostPrefixItems.{order-within, answered-within, left-within}
 use Rattle.ts_engine.proofs.HostPrefixLemmas.{run-prefixes}
 use Rattle.ts_engine.proofs.HostPrefixRuns.{answers-run}
+use Rattle.ts_engine.proofs.Openings.{opened-below, unloaded-complete}
 
 -- ---- each prefix of the journal
 
@@ -103,16 +97,6 @@ opened-over run bounded bytes between left mid e opened ends =
     ends-over run bounded bytes left mid.state opened.0 opened.1 opened.4 e
     (subst (λ (w : Snapshot). EndsFrom run w left e) (world-is run.seen.readings between run.seen.limits bytes mid opened.0 opened.3 opened.2) ends)
 
--- the journal was not loaded
-pub unopened-over : (run : HostView) (bytes : List ℕ) (left : Option (List ℕ)) (mid : DbState) (e : JournalEnd) → run.same_hub → run.same_output → run.same_clock
-    → IsOpened (Err e) run.seen.limits.wire run.budget (record { limits = run.seen.limits; state = empty }) mid bytes left → EndsOver run bytes left (end.NotLoaded e)
-unopened-over run bytes left mid (journal.Answered e) hub output clock opened = absurd opened
-unopened-over run bytes left mid journal.AppendFault hub output clock opened = absurd opened
-unopened-over run bytes left mid journal.LoadFault hub output clock opened = (hub, output, clock, opened)
-unopened-over run bytes left mid (journal.Broken place) hub output clock opened = (opened.2, opened.0, (hub, output, clock, opened.1))
-unopened-over run bytes left mid journal.OverBudget hub output clock opened = (opened.0, (hub, output, clock, opened.1))
-unopened-over run bytes left mid journal.NoMemory hub output clock opened = (hub, output, clock, opened)
-
 -- ---- the status if no device fails
 
 weight-append : (one two : List Step) → weight (one ++ two) ≡ weight one + weight two
@@ -149,16 +133,10 @@ module _ (run : HostView) (before now : Faults) (steps : List Step) (told : run.
   status-from from left end.NoMemory ends causes = inl refl
   status-from from left (end.NotLoaded e) ends causes = absurd ends
 
-  -- the status for a journal shorter than the budget
-  hosted-below : (bytes : List ℕ) (l : Load) → length bytes < run.budget → load run.seen.limits bytes ≡ l → status_hosted run.seen.limits run.budget bytes ≡ status_loaded l status.Ended
-  hosted-below bytes l within is =
-      ap (λ (b : Bool). if b then status.Budget else status_loaded (load run.seen.limits bytes) status.Ended) (lt-leb run.budget (length bytes) within)
-      ∙ ap (λ (x : Load). status_loaded x status.Ended) is
-
   loaded-status : (bytes : List ℕ) (left : Option (List ℕ)) (e : HostEnd) → EndsLoaded run bytes left e → HasHostCauses (status_of e) before now
       → IsOutOfMemoryOr (status_of e) (status_hosted run.seen.limits run.budget bytes)
   loaded-status bytes left e ends causes =
-      subst (λ (s : Status). IsOutOfMemoryOr (status_of e) s) (sym (hosted-below bytes (Loads ends.loaded ends.place) ends.read_whole ends.loads))
+      subst (λ (s : Status). IsOutOfMemoryOr (status_of e) s) (sym (opened-below run.seen.limits run.budget bytes status.Ended (Loads ends.loaded ends.place) ends.read_whole ends.loads))
       (status-from (world_loaded run bytes left ends.loaded ends.place) left e ends.ends causes)
 
   -- with a journal
@@ -168,10 +146,5 @@ module _ (run : HostView) (before now : Faults) (steps : List Step) (told : run.
   status-over bytes left end.NotReady ends causes = loaded-status bytes left end.NotReady ends causes
   status-over bytes left end.NotOpened ends causes = loaded-status bytes left end.NotOpened ends causes
   status-over bytes left end.NoMemory ends causes = loaded-status bytes left end.NoMemory ends causes
-  status-over bytes left (end.NotLoaded (journal.Answered e)) ends causes = absurd ends
-  status-over bytes left (end.NotLoaded journal.AppendFault) ends causes = absurd ends
-  status-over bytes left (end.NotLoaded journal.LoadFault) ends causes = absurd (none.journal (causes.journal refl))
-  status-over bytes left (end.NotLoaded (journal.Broken place)) ends causes = inr (sym (hosted-below bytes (BreaksAt place) ends.0 ends.1))
-  status-over bytes left (end.NotLoaded journal.OverBudget) ends causes =
-      inr (sym (ap (λ (b : Bool). if b then status.Budget else status_loaded (load run.seen.limits bytes) status.Ended) (le-leb run.budget (length bytes) ends.0)))
-  status-over bytes left (end.NotLoaded journal.NoMemory) ends causes = inl refl
+  status-over bytes left (end.NotLoaded e) ends causes =
+      unloaded-complete e run.seen.limits run.budget bytes status.Ended _ ends (λ is. none.journal (causes.journal (ap unloaded_status is)))

@@ -1,22 +1,19 @@
 -- From what a host did to what a run in the mode `host` did.
-use Rattle.std.specs.Prelude.{Option, None, Some}
-use Rattle.std.proofs.Common.{◌≡◌, ◌≤◌, ◌<◌, ◌+◌, ℕ, false, List, [], ◌++◌, length, take, map, refl, sym, ◌∙◌, ap, subst, arith, append-nil}
-use Rattle.std.specs.Option.{option_map}
+use Rattle.std.specs.Prelude.{Option}
+use Rattle.std.proofs.Common.{◌≡◌, ◌+◌, ℕ, false, List, [], ◌++◌, take, refl, sym, ◌∙◌, ap, subst, append-nil}
 use Rattle.ts_io.specs.Hubs.{Outgoing, Same}
-use Rattle.ts_io.specs.Pieces.{Piece}
-use Rattle.ts_io.specs.Sinks.{Grows, GrowsByPrefix}
+use Rattle.ts_io.specs.Sinks.{Grows}
 use Rattle.ts_io.specs.declared.hub.Step.{Step}
 use Rattle.ts_io.proofs.Growth.{grows_twice}
 use Rattle.ts_spec.specs.declared.limits.Limits.{Limits}
 use Rattle.ts_db.specs.DbState.{DbState, DbView, Simulates}
-use Rattle.ts_mux.specs.Order.{Item}
 use Rattle.ts_words.specs.Lines.{ready_line_of}
 use Rattle.ts_execution.specs.Journaling.{Snapshot, IsJournaled, kept}
 use Rattle.ts_execution.proofs.Carried.{carries_as}
-use Rattle.ts_host.specs.Answers.{Answers, Counts, Agree, lines_of, none_executed}
+use Rattle.ts_host.specs.Answers.{Answers, lines_of, none_executed}
 use Rattle.ts_host.specs.Serving.{AllSettled, Stopped, Ends, Serves}
 use Rattle.ts_host.specs.Shown.{View}
-use Rattle.ts_host.specs.Steps.{Takes, items_of_steps, piece_of}
+use Rattle.ts_host.specs.Steps.{Takes, items_of_steps}
 use Rattle.ts_host.specs.declared.serving.HubEnd.{HubEnd}
 use Rattle.ts_host.specs.declared.serving.HubEnd.TheVariants as served
 use Rattle.ts_host.proofs.Answering.{answers_agree, answers_as}

@@ -1,6 +1,5 @@
 -- Which device failed in a run in the mode `host`, and which statuses such a run never has.
-use Rattle.std.specs.Prelude.{Some, Err}
-use Rattle.std.proofs.Common.{◌≡◌, ◌≢◌, ◌⊎◌, inl, inr, ◌≤◌, ℕ, Bool, true, false, refl, sym, ◌∙◌, ap, subst, arith}
+use Rattle.std.proofs.Common.{◌≡◌, ◌≢◌, ◌⊎◌, inl, inr, ℕ, true, refl, sym, ◌∙◌, ap, subst, arith}
 use Rattle.ts_io.specs.Causes.{Rose}
 use Rattle.ts_words.specs.declared.mode.Storage.{Storage}
 use Rattle.ts_words.specs.declared.mode.Storage.TheVariants as storage
@@ -10,13 +9,14 @@ use Rattle.ts_host.specs.Causes.{Faults, HasEndCause}
 use Rattle.ts_host.specs.declared.host.HostFault.TheVariants as fault
 use Rattle.ts_host.specs.declared.serving.HubEnd.{HubEnd}
 use Rattle.ts_host.specs.declared.serving.HubEnd.TheVariants as served
+use Rattle.ts_engine.specs.declared.opened.LoadFault.{LoadFault}
+use Rattle.ts_engine.specs.declared.opened.LoadFault.TheVariants as unloaded
 use Rattle.ts_engine.specs.declared.host_end.HostEnd.{HostEnd}
 use Rattle.ts_engine.specs.declared.host_end.HostEnd.TheVariants as end
-use Rattle.ts_engine.specs.declared.journaling.JournalEnd.{JournalEnd}
-use Rattle.ts_engine.specs.declared.journaling.JournalEnd.TheVariants as journal
 use Rattle.ts_engine.specs.HostEnds.{HasHostCauses, IsLoaded, IsPossible, has_journal, served_status, status_of}
-use Rattle.ts_engine.specs.Journaled.{IsUnopened, is_load_fault}
-use Rattle.ts_engine.specs.Journaled as journaled
+use Rattle.ts_engine.specs.Opening.{unloaded_status}
+use Rattle.ts_engine.proofs.Openings.{never-unloaded, fault-meant}
+use Rattle.ts_engine.proofs.Tops.{given-as}
 
 -- ---- causes
 
@@ -61,24 +61,18 @@ causes-served (served.Stopped fault.Journal) before now cause = record {
 }
 
 -- the journal was not loaded
-pub causes-unloaded : (e : JournalEnd) (hub lines faults faults' : ℕ) → IsUnopened e → (is_load_fault (Err e) ≡ true → Rose faults faults') → (is_load_fault (Err e) ≡ false → faults' ≡ faults)
-    → HasHostCauses (journaled.status_of e) (record { hub = hub; lines = lines; journal = faults }) (record { hub = hub; lines = lines; journal = faults' })
-causes-unloaded (journal.Answered e) hub lines faults faults' is rose stays = absurd is
-causes-unloaded journal.AppendFault hub lines faults faults' is rose stays = absurd is
-causes-unloaded journal.LoadFault hub lines faults faults' is rose stays = record {
-  hub = λ is. absurd (cc);
-  lines = λ is. absurd (cc);
-  journal = λ is. rose refl;
-  no_hub = λ other. refl;
-  no_lines = λ other. refl;
-  no_journal = λ other. absurd (other refl);
-}
-causes-unloaded (journal.Broken place) hub lines faults faults' is rose stays =
-    causes-none status.JournalBroken _ _ (λ is. (cc)) (λ is. (cc)) (λ is. (cc)) (ap (λ (n : ℕ). record { hub = hub; lines = lines; journal = n }) (stays refl))
-causes-unloaded journal.OverBudget hub lines faults faults' is rose stays =
-    causes-none status.Budget _ _ (λ is. (cc)) (λ is. (cc)) (λ is. (cc)) (ap (λ (n : ℕ). record { hub = hub; lines = lines; journal = n }) (stays refl))
-causes-unloaded journal.NoMemory hub lines faults faults' is rose stays =
-    causes-none status.Memory _ _ (λ is. (cc)) (λ is. (cc)) (λ is. (cc)) (ap (λ (n : ℕ). record { hub = hub; lines = lines; journal = n }) (stays refl))
+pub causes-unloaded : (e : LoadFault) (hub lines faults faults' : ℕ) → (e ≡ unloaded.Journal → Rose faults faults') → (e ≢ unloaded.Journal → faults' ≡ faults)
+    → HasHostCauses (unloaded_status e) (record { hub = hub; lines = lines; journal = faults }) (record { hub = hub; lines = lines; journal = faults' })
+causes-unloaded e hub lines faults faults' rose stays =
+    let never = never-unloaded e in
+    record {
+      hub = λ is. absurd (never.no_accept is);
+      lines = λ is. absurd (never.no_write is);
+      journal = λ is. rose (fault-meant e is);
+      no_hub = λ other. refl;
+      no_lines = λ other. refl;
+      no_journal = λ other. stays (λ is. other (ap unloaded_status is));
+    }
 
 -- a journal that is not used does not fail
 never-rises : Rose 0 0 → ⊥
@@ -111,33 +105,18 @@ served-meant (served.Stopped fault.Line) = record { no_usage = λ is. (cc); no_c
 served-meant (served.Stopped fault.Journal) = record { no_usage = λ is. (cc); no_capture = λ is. (cc); no_read_fault = λ is. (cc) }
 served-meant (served.Stopped fault.Memory) = record { no_usage = λ is. (cc); no_capture = λ is. (cc); no_read_fault = λ is. (cc) }
 
-unloaded-meant : (e : JournalEnd) → IsUnopened e → IsOther (journaled.status_of e)
-unloaded-meant (journal.Answered e) is = absurd is
-unloaded-meant journal.AppendFault is = absurd is
-unloaded-meant journal.LoadFault is = record { no_usage = λ is. (cc); no_capture = λ is. (cc); no_read_fault = λ is. (cc) }
-unloaded-meant (journal.Broken place) is = record { no_usage = λ is. (cc); no_capture = λ is. (cc); no_read_fault = λ is. (cc) }
-unloaded-meant journal.OverBudget is = record { no_usage = λ is. (cc); no_capture = λ is. (cc); no_read_fault = λ is. (cc) }
-unloaded-meant journal.NoMemory is = record { no_usage = λ is. (cc); no_capture = λ is. (cc); no_read_fault = λ is. (cc) }
-
 never-meant : (kept_in : Storage) (e : HostEnd) → IsPossible kept_in e → IsOther (status_of e)
 never-meant kept_in (end.Served e) is = served-meant e
 never-meant kept_in end.NotReady is = record { no_usage = λ is. (cc); no_capture = λ is. (cc); no_read_fault = λ is. (cc) }
 never-meant kept_in end.NotOpened is = record { no_usage = λ is. (cc); no_capture = λ is. (cc); no_read_fault = λ is. (cc) }
 never-meant kept_in end.NoMemory is = record { no_usage = λ is. (cc); no_capture = λ is. (cc); no_read_fault = λ is. (cc) }
-never-meant kept_in (end.NotLoaded e) is = unloaded-meant e is.1
+never-meant kept_in (end.NotLoaded e) is =
+    let never = never-unloaded e in
+    record { no_usage = never.no_usage; no_capture = never.no_capture; no_read_fault = never.no_read }
 
 pub never : (kept_in : Storage) (e : HostEnd) (meant given : Status) → IsPossible kept_in e → meant ≡ status_of e → (given ≡ status.WriteFault) ⊎ (given ≡ meant) → IsOther given
 never kept_in e meant given possible means (inl failed) = record { no_usage = λ is. (cc); no_capture = λ is. (cc); no_read_fault = λ is. (cc) }
 never kept_in e meant given possible means (inr same) = subst IsOther (sym (same ∙ means)) (never-meant kept_in e possible)
-
--- a reported status other than a write fault is the intended one
-pub given-as : (e : HostEnd) (wanted meant given : Status) → wanted ≢ status.WriteFault → given ≡ wanted → meant ≡ status_of e → (given ≡ status.WriteFault) ⊎ (given ≡ meant) → status_of e ≡ wanted
-given-as e wanted meant given other is means (inl failed) = absurd (other (sym is ∙ failed))
-given-as e wanted meant given other is means (inr same) = sym (same ∙ means) ∙ is
-
-pub not-given : (e : HostEnd) (wanted meant given : Status) → meant ≡ status_of e → (given ≡ status.WriteFault) ⊎ (given ≡ meant) → given ≢ status.WriteFault → given ≢ wanted → status_of e ≢ wanted
-not-given e wanted meant given means (inl failed) no_write other is = no_write failed
-not-given e wanted meant given means (inr same) no_write other is = other (same ∙ means ∙ is)
 
 -- after loading anything but that is possible
 pub possible-loaded : (kept_in : Storage) (e : HostEnd) → IsLoaded e → IsPossible kept_in e
@@ -158,7 +137,7 @@ broken-has kept_in (end.Served (served.Stopped fault.Memory)) possible is = absu
 broken-has kept_in end.NotReady possible is = absurd (cc)
 broken-has kept_in end.NotOpened possible is = absurd (cc)
 broken-has kept_in end.NoMemory possible is = absurd (cc)
-broken-has kept_in (end.NotLoaded e) possible is = possible.0
+broken-has kept_in (end.NotLoaded e) possible is = possible
 
 fault-has : (kept_in : Storage) (e : HostEnd) → (kept_in ≡ storage.Memory → status_of e ≢ status.JournalFault) → status_of e ≡ status.JournalFault → has_journal kept_in ≡ true
 fault-has storage.Memory e unused is = absurd (unused refl is)
@@ -167,8 +146,8 @@ fault-has storage.SyncedJournal e unused is = refl
 
 pub only-journal : (kept_in : Storage) (e : HostEnd) (meant given : Status) → IsPossible kept_in e → (kept_in ≡ storage.Memory → status_of e ≢ status.JournalFault) → meant ≡ status_of e
     → (given ≡ status.WriteFault) ⊎ (given ≡ meant) → (given ≡ status.JournalFault) ⊎ (given ≡ status.JournalBroken) → has_journal kept_in ≡ true
-only-journal kept_in e meant given possible unused means same (inl failed) = fault-has kept_in e unused (given-as e status.JournalFault meant given (λ is. (cc)) failed means same)
-only-journal kept_in e meant given possible unused means same (inr broken) = broken-has kept_in e possible (given-as e status.JournalBroken meant given (λ is. (cc)) broken means same)
+only-journal kept_in e meant given possible unused means same (inl failed) = fault-has kept_in e unused (given-as (status_of e) status.JournalFault meant given (λ is. (cc)) failed means same)
+only-journal kept_in e meant given possible unused means same (inr broken) = broken-has kept_in e possible (given-as (status_of e) status.JournalBroken meant given (λ is. (cc)) broken means same)
 
 -- a count that is the same before and after did not rise from 0
 pub unused-memory : (told : Status) (before now : Faults) → HasHostCauses told (record { hub = before.hub; lines = before.lines; journal = 0 }) (record { hub = now.hub; lines = now.lines; journal = 0 })

@@ -17,9 +17,11 @@ use Rattle.ts_engine.specs.declared.piped.Outcome.{Outcome}
 use Rattle.ts_engine.specs.Answered.{IsOutOfMemoryOr}
 use Rattle.ts_engine.specs.Headline.{Exchange, asks_to_quit, ending}
 use Rattle.ts_engine.specs.Journaled.{IsAnswered, HasJournalCauses, status_piped}
+use Rattle.ts_engine.specs.Journaled as run
 use Rattle.ts_engine.specs.Piping.{PipedWith, HasCausesWith}
 use Rattle.ts_engine.specs.Status.{status_of}
 use Rattle.ts_engine.specs.Top.{status_by, status_cut}
+use Rattle.ts_engine.proofs.Tops.{read-meant, write-meant}
 use Rattle.ts_engine.proofs.Unfailed.{unfailed_causes, unfailed_answered, unfailed_taken}
 use Rattle.ts_engine.proofs.NotJournaledInputs.{unkept_of, failed_causes}
 
@@ -48,21 +50,18 @@ piped-status limits budget bytes given below past = go (either (length bytes) bu
 
 -- the journal did not fail
 pub unfailed-causes : (e : End) (reads reads' writes writes' faults faults' : ℕ) (own own' : JournalFaults) → own.count ≡ faults → own'.count ≡ faults' → own'.failed ≡ false
-    → HasCausesWith journal_handler e reads reads' writes writes' own own' → HasJournalCauses (ended.Answered e) reads reads' writes writes' faults faults'
+    → HasCausesWith journal_handler e reads reads' writes writes' own own' → HasJournalCauses (status_of e) reads reads' writes writes' faults faults'
 unfailed-causes e reads reads' writes writes' faults faults' own own' before after fine causes =
     let all = unfailed_causes e reads reads' writes writes' own own' fine causes in
     record {
-      read = λ is. all.0.read (of-answered e end.ReadFault is);
-      write = λ is. all.0.write (of-answered e end.WriteFault is);
+      read = λ is. all.0.read (read-meant e is);
+      write = λ is. all.0.write (write-meant e is);
       failed = λ is. absurd (not-journal e is);
-      unread = λ other. all.0.unread (λ is. other (ap (λ (f : End). ended.Answered f) is));
-      unwritten = λ other. all.0.unwritten (λ is. other (ap (λ (f : End). ended.Answered f) is));
+      unread = λ other. all.0.unread (λ is. other (ap status_of is));
+      unwritten = λ other. all.0.unwritten (λ is. other (ap status_of is));
       unfailed = λ other. sym after ∙ all.1 ∙ before;
     }
   where
-    of-answered : (e f : End) → ended.Answered e ≡ ended.Answered f → e ≡ f
-    of-answered e f is = (cc)
-
     not-journal : (e : End) → status_of e ≡ status.JournalFault → ⊥
     not-journal end.Ended is = (cc)
     not-journal (end.Truncated place) is = (cc)
@@ -74,7 +73,7 @@ unfailed-causes e reads reads' writes writes' faults faults' own own' before aft
 
 -- the journal failed
 pub failed-causes : (e : End) (reads reads' writes writes' faults faults' : ℕ) (own own' : JournalFaults) → own.count ≡ faults → own'.count ≡ faults' → own.failed ≡ false → own'.failed ≡ true
-    → HasCausesWith journal_handler e reads reads' writes writes' own own' → HasJournalCauses ended.AppendFault reads reads' writes writes' faults faults'
+    → HasCausesWith journal_handler e reads reads' writes writes' own own' → HasJournalCauses status.JournalFault reads reads' writes writes' faults faults'
 failed-causes e reads reads' writes writes' faults faults' own own' before after fine failed causes =
     let all = failed_causes own own' fine failed e reads reads' writes writes' causes in
     record {
@@ -124,7 +123,7 @@ abbrev pub counts : (failed : Bool) → ℕ → JournalFaults
 counts failed n = record { failed = failed; count = n }
 
 pub causes-by : (failed : Bool) (e : End) (reads reads' writes writes' faults faults' : ℕ) → HasCausesWith journal_handler e reads reads' writes writes' (counts false faults) (counts failed faults')
-    → HasJournalCauses (end-by failed e) reads reads' writes writes' faults faults'
+    → HasJournalCauses (run.status_of (end-by failed e)) reads reads' writes writes' faults faults'
 causes-by true e reads reads' writes writes' faults faults' causes =
     failed-causes e reads reads' writes writes' faults faults' (counts false faults) (counts true faults') refl refl refl refl causes
 causes-by false e reads reads' writes writes' faults faults' causes =

@@ -63,6 +63,34 @@ pub not_meant : {E : Type 0} (view : E → Status) (e fault : E) (meant given : 
 not_meant view e fault meant given means (inl failed) no_write other is = no_write failed
 not_meant view e fault meant given means (inr same) no_write other is = other (same ∙ means ∙ ap view is)
 
+-- a reported status other than a write fault is the intended one
+pub given-as : (told wanted meant given : Status) → wanted ≢ status.WriteFault → given ≡ wanted → meant ≡ told → (given ≡ status.WriteFault) ⊎ (given ≡ meant) → told ≡ wanted
+given-as told wanted meant given other is means (inl failed) = absurd (other (sym is ∙ failed))
+given-as told wanted meant given other is means (inr same) = sym (same ∙ means) ∙ is
+
+pub not-given : (told wanted meant given : Status) → meant ≡ told → (given ≡ status.WriteFault) ⊎ (given ≡ meant) → given ≢ status.WriteFault → given ≢ wanted → told ≢ wanted
+not-given told wanted meant given means (inl failed) no_write other is = no_write failed
+not-given told wanted meant given means (inr same) no_write other is = other (same ∙ means ∙ is)
+
+-- the status of a failed read or write is that of this end
+pub read-meant : (e : End) → status_of e ≡ status.ReadFault → e ≡ end.ReadFault
+read-meant end.ReadFault is = refl
+read-meant end.Ended is = absurd (cc)
+read-meant (end.Truncated place) is = absurd (cc)
+read-meant (end.Protocol fault) is = absurd (cc)
+read-meant end.WriteFault is = absurd (cc)
+read-meant end.Memory is = absurd (cc)
+read-meant end.Budget is = absurd (cc)
+
+pub write-meant : (e : End) → status_of e ≡ status.WriteFault → e ≡ end.WriteFault
+write-meant end.WriteFault is = refl
+write-meant end.ReadFault is = absurd (cc)
+write-meant end.Ended is = absurd (cc)
+write-meant (end.Truncated place) is = absurd (cc)
+write-meant (end.Protocol fault) is = absurd (cc)
+write-meant end.Memory is = absurd (cc)
+write-meant end.Budget is = absurd (cc)
+
 -- ---- the arguments
 
 -- one argument does not select `keep`

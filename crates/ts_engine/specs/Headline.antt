@@ -49,6 +49,16 @@ pub record RunView : Type 1 where
   pub had : List ℕ → Type 0
   pub has : List ℕ → Type 0
 
+-- the same from the clock and the output before and after
+abbrev pub run_view : {C K : Type 0} → (readings : C → Option (List ℕ)) → (has : K → List ℕ → Type 0) → Limits → (clock clock' : C) → (out out' : K) → RunView
+run_view readings has limits clock clock' out out' = record {
+  limits = limits;
+  readings = readings clock;
+  readings_left = readings clock';
+  had = has out;
+  has = has out';
+}
+
 -- the exchange of such a run with the plain handler, from the empty database to `held`
 abbrev pub exchange_of : RunView → DbState → Exchange plain
 exchange_of seen held = record {

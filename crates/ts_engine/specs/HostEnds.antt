@@ -15,7 +15,7 @@ use Rattle.ts_words.specs.declared.status.Status.TheVariants as status
 use Rattle.ts_engine.specs.Asked.{asked}
 use Rattle.ts_engine.specs.declared.host_end.HostEnd.{HostEnd}
 use Rattle.ts_engine.specs.declared.host_end.HostEnd.TheVariants as end
-use Rattle.ts_engine.specs.Journaled as journaled
+use Rattle.ts_engine.specs.Opening.{unloaded_status, unloaded_place}
 
 -- ---- the arguments
 
@@ -56,7 +56,7 @@ status_of (end.Served e) = served_status e
 status_of end.NotReady = status.WriteFault
 status_of end.NotOpened = status.AcceptFault
 status_of end.NoMemory = status.Memory
-status_of (end.NotLoaded e) = journaled.status_of e
+status_of (end.NotLoaded e) = unloaded_status e
 
 -- the offset in the status line of an end; 0 if it has none
 abbrev pub place_of : HostEnd → ℕ
@@ -64,7 +64,7 @@ place_of (end.Served e) = 0
 place_of end.NotReady = 0
 place_of end.NotOpened = 0
 place_of end.NoMemory = 0
-place_of (end.NotLoaded e) = journaled.place_of e
+place_of (end.NotLoaded e) = unloaded_place e
 
 -- the journal was loaded, or there is none
 abbrev pub IsLoaded : HostEnd → Type 0
@@ -76,7 +76,7 @@ IsLoaded (end.NotLoaded e) = ⊥
 
 -- only a run with a journal can end before that was loaded
 abbrev pub IsPossible : Storage → HostEnd → Type 0
-IsPossible kept_in (end.NotLoaded e) = (has_journal kept_in ≡ true) × journaled.IsUnopened e
+IsPossible kept_in (end.NotLoaded e) = has_journal kept_in ≡ true
 IsPossible kept_in (end.Served e) = ⊤
 IsPossible kept_in end.NotReady = ⊤
 IsPossible kept_in end.NotOpened = ⊤

@@ -1,6 +1,6 @@
 -- What `top` does in the mode `host`: it serves many connections at once on what the journal loads to, and adds the
 -- record of each change to the journal before its reply leaves.
-use Rattle.std.specs.Prelude.{◌≡◌, ◌<◌, ◌≤◌, ℕ, nat_le, if◌then◌else◌, List, [], ◌++◌, length, take, map, Option, None, Some, false}
+use Rattle.std.specs.Prelude.{◌≡◌, ◌<◌, ◌≤◌, ℕ, List, [], ◌++◌, length, take, map, Option, None, Some, false}
 use Rattle.ts_io.specs.Hubs.{Outgoing, Same}
 use Rattle.ts_io.specs.Pieces.{Piece}
 use Rattle.ts_io.specs.Sinks.{Grows, GrowsByPrefix}
@@ -8,7 +8,7 @@ use Rattle.ts_io.specs.declared.hub.Step.{Step}
 use Rattle.ts_spec.specs.State.{State}
 use Rattle.ts_spec.specs.declared.limits.Limits.{Limits}
 use Rattle.ts_db.specs.DbState.{DbState}
-use Rattle.ts_journal.specs.Loading.{Loads, BreaksAt, load}
+use Rattle.ts_journal.specs.Loading.{Loads, load}
 use Rattle.ts_mux.specs.declared.frame.Frame.{Frame}
 use Rattle.ts_mux.specs.Order.{Item}
 use Rattle.ts_words.specs.Lines.{ready_line_of}
@@ -24,12 +24,10 @@ use Rattle.ts_host.specs.declared.serving.HubEnd.{HubEnd}
 use Rattle.ts_host.specs.declared.serving.HubEnd.TheVariants as served
 use Rattle.ts_engine.specs.declared.host_end.HostEnd.{HostEnd}
 use Rattle.ts_engine.specs.declared.host_end.HostEnd.TheVariants as end
-use Rattle.ts_engine.specs.declared.journaling.JournalEnd.{JournalEnd}
-use Rattle.ts_engine.specs.declared.journaling.JournalEnd.TheVariants as journal
-use Rattle.ts_engine.specs.Headline.{RunView, start}
+use Rattle.ts_engine.specs.Headline.{RunView, run_view, start}
 use Rattle.ts_engine.specs.HostEnds.{status_of, place_of}
 use Rattle.ts_engine.specs.HostPrefixes.{HostRun, HostPrefixes, run_of_answers, nothing_asked}
-use Rattle.ts_engine.specs.Journaled.{status_loaded}
+use Rattle.ts_engine.specs.Opening.{NotLoaded, status_opened}
 use Rattle.ts_engine.specs.Top.{ReportsIn}
 
 -- What a run in this mode shows, before and after: the output and the clock, the steps that come to the hub, and what it
@@ -45,6 +43,22 @@ pub record HostView : Type 1 where
   pub same_hub : Type 0
   pub same_output : Type 0
   pub same_clock : Type 0
+
+-- the same from the clock, the output and the hub before and after
+abbrev pub host_view : {C K H : Type 0} → (readings : C → Option (List ℕ)) → (has : K → List ℕ → Type 0) → (coming : H → Option (List Step)) → (sent : H → Outgoing)
+    → (address : List ℕ) → Limits → (budget : ℕ) → (clock clock' : C) → (out out' : K) → (hub hub' : H) → HostView
+host_view readings has coming sent address limits budget clock clock' out out' hub hub' = record {
+  address = address;
+  budget = budget;
+  seen = run_view readings has limits clock clock' out out';
+  coming = coming hub;
+  coming_left = coming hub';
+  out = sent hub;
+  out_left = sent hub';
+  same_hub = hub' ≡ hub;
+  same_output = out' ≡ out;
+  same_clock = clock' ≡ clock;
+}
 
 -- ---- the run from a world
 
@@ -168,18 +182,9 @@ module _ (run : HostView) (bytes : List ℕ) (left : Option (List ℕ)) where
   abbrev pub Untouched : Type 0
   Untouched = run.same_hub × run.same_output × run.same_clock × (left ≡ Some bytes)
 
-  -- the journal could not be loaded
-  abbrev pub EndsUnloaded : JournalEnd → Type 0
-  EndsUnloaded journal.LoadFault = Untouched
-  EndsUnloaded (journal.Broken place) = IsReadWhole × (load run.seen.limits bytes ≡ BreaksAt place) × Untouched
-  EndsUnloaded journal.OverBudget = (run.budget ≤ length bytes) × Untouched
-  EndsUnloaded journal.NoMemory = Untouched
-  EndsUnloaded (journal.Answered e) = ⊥
-  EndsUnloaded journal.AppendFault = ⊥
-
   -- what the run did, by how it ended
   abbrev pub EndsOver : HostEnd → Type 0
-  EndsOver (end.NotLoaded e) = EndsUnloaded e
+  EndsOver (end.NotLoaded fault) = NotLoaded fault run.seen.limits run.budget bytes Untouched
   EndsOver (end.Served e) = EndsLoaded (end.Served e)
   EndsOver end.NotReady = EndsLoaded end.NotReady
   EndsOver end.NotOpened = EndsLoaded end.NotOpened
@@ -200,4 +205,4 @@ pub record HasHostLine (kept_in : Storage) (had has : List ℕ → Type 0) (give
 
 -- the status of a run over this journal, if no device fails and the steps do not use up the budget
 abbrev pub status_hosted : Limits → (budget : ℕ) → (bytes : List ℕ) → Status
-status_hosted limits budget bytes = if nat_le budget (length bytes) then status.Budget else status_loaded (load limits bytes) status.Ended
+status_hosted limits budget bytes = status_opened limits budget bytes status.Ended

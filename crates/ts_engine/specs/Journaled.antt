@@ -1,6 +1,6 @@
 -- What `top` does in the mode `keep`: it loads the journal, answers the input on that database, and appends the record
 -- of each change before it writes the reply.
-use Rattle.std.specs.Prelude.{⊤, ◌≡◌, ◌≢◌, ◌<◌, ◌≤◌, false, true, Bool, ℕ, nat_le, if◌then◌else◌, List, ◌++◌, length, take, Option, Some, Result, Ok, Err, String}
+use Rattle.std.specs.Prelude.{◌≡◌, ◌≢◌, ◌<◌, ◌≤◌, false, true, Bool, ℕ, nat_le, if◌then◌else◌, List, ◌++◌, length, take, Option, Some, String}
 use Rattle.std.specs.declared.alloc.Global.{Global}
 use Rattle.ts_io.specs.Causes.{Rose}
 use Rattle.ts_spec.specs.State.{State}
@@ -8,7 +8,7 @@ use Rattle.ts_spec.specs.Wire.{Request}
 use Rattle.ts_spec.specs.declared.limits.Limits.{Limits}
 use Rattle.ts_spec.specs.declared.wire.WireLimits.{WireLimits}
 use Rattle.ts_db.specs.DbState.{DbState}
-use Rattle.ts_journal.specs.Loading.{Load, Loads, BreaksAt, load, load_from, FrontLoads}
+use Rattle.ts_journal.specs.Loading.{Loads, load, FrontLoads}
 use Rattle.ts_words.specs.declared.mode.Mode.TheVariants as mode
 use Rattle.ts_words.specs.declared.status.Status.{Status}
 use Rattle.ts_words.specs.declared.status.Status.TheVariants as status
@@ -21,6 +21,7 @@ use Rattle.ts_engine.specs.Answered.{IsOutOfMemoryOr}
 use Rattle.ts_engine.specs.Asked.{asked}
 use Rattle.ts_engine.specs.Headline.{Exchange, RunView, requests, asks_to_quit, ending}
 use Rattle.ts_engine.specs.Status as input
+use Rattle.ts_engine.specs.Opening.{NotLoaded, unloaded_status, unloaded_place, status_opened}
 use Rattle.ts_engine.specs.InputTaken.{WrittenAndTaken}
 use Rattle.ts_engine.specs.JournalPrefixes.{HandledRun, run_of, PrefixReplays, run_to_fault, ReplaysToFault}
 use Rattle.ts_engine.specs.Top.{ReportsIn, status_by, status_cut}
@@ -36,19 +37,13 @@ IsKeep words = asked words ≡ Some mode.Keep
 abbrev pub status_of : JournalEnd → Status
 status_of (end.Answered e) = input.status_of e
 status_of end.AppendFault = status.JournalFault
-status_of end.LoadFault = status.JournalFault
-status_of (end.Broken place) = status.JournalBroken
-status_of end.OverBudget = status.Budget
-status_of end.NoMemory = status.Memory
+status_of (end.NotLoaded fault) = unloaded_status fault
 
 -- the offset in the status line of an end; 0 if it has none
 abbrev pub place_of : JournalEnd → ℕ
 place_of (end.Answered e) = input.place_of e
-place_of (end.Broken place) = place
 place_of end.AppendFault = 0
-place_of end.LoadFault = 0
-place_of end.OverBudget = 0
-place_of end.NoMemory = 0
+place_of (end.NotLoaded fault) = unloaded_place fault
 
 -- ---- the run
 
@@ -111,10 +106,7 @@ module _ (run : JournalRun) (untouched : Type 0) (budget : ℕ) (bytes : List �
   abbrev pub EndsAs : JournalEnd → Type 0
   EndsAs (end.Answered e) = IsReadWhole × GoesOnTo e
   EndsAs end.AppendFault = IsReadWhole × GoesOnToFault
-  EndsAs end.LoadFault = Untouched
-  EndsAs (end.Broken place) = IsReadWhole × (load run.seen.limits run.journal ≡ BreaksAt place) × Untouched
-  EndsAs end.OverBudget = (budget ≤ length run.journal) × Untouched
-  EndsAs end.NoMemory = Untouched
+  EndsAs (end.NotLoaded fault) = NotLoaded fault run.seen.limits budget run.journal Untouched
 
 -- how a run with a journal ended, and how that was reported; a good end always has the good status
 pub record Journaled (run : JournalRun) (untouched : Type 0) (budget : ℕ) (bytes : List ℕ) (left : Option (List ℕ)) (had has : List ℕ → Type 0) (given : Status) : Type 0 where
@@ -138,50 +130,18 @@ status_piped limits budget bytes =
     then status_cut (asks_to_quit limits (take budget bytes)) (ending limits (take budget bytes))
     else status_by (asks_to_quit limits bytes) (ending limits bytes)
 
--- the status for a broken journal, or else that of the input
-abbrev pub status_loaded : Load → Status → Status
-status_loaded (BreaksAt place) other = status.JournalBroken
-status_loaded (Loads m place) other = other
-
--- the status if the journal is not shorter than the budget, or else by what it loads to
+-- the status of a run over this journal
 abbrev pub status_journaled : Limits → (budget : ℕ) → (journal bytes : List ℕ) → Status
-status_journaled limits budget journal bytes =
-    if nat_le budget (length journal) then status.Budget else status_loaded (load limits journal) (status_piped limits.wire budget bytes)
+status_journaled limits budget journal bytes = status_opened limits budget journal (status_piped limits.wire budget bytes)
 
--- ---- loading and answering
-
--- How a journal with these bytes was opened: what it loads to, and what it has now. It is called broken only after it
--- was read to its end.
-abbrev pub IsOpened : Result (Unit {0}) JournalEnd → WireLimits → (budget : ℕ) → (from to : DbState) → (journal : List ℕ) → (left : Option (List ℕ)) → Type 0
-IsOpened (Ok done) wire budget from to journal left =
-    (place : ℕ) × (load_from from.limits wire from.state journal ≡ Loads to.state place) × (to.limits ≡ from.limits) × (left ≡ Some (take place journal)) × (length journal < budget)
-IsOpened (Err (end.Broken place)) wire budget from to journal left = (load_from from.limits wire from.state journal ≡ BreaksAt place) × (left ≡ Some journal) × (length journal < budget)
-IsOpened (Err end.OverBudget) wire budget from to journal left = (budget ≤ length journal) × (left ≡ Some journal)
-IsOpened (Err end.LoadFault) wire budget from to journal left = left ≡ Some journal
-IsOpened (Err end.NoMemory) wire budget from to journal left = left ≡ Some journal
-IsOpened (Err other) wire budget from to journal left = ⊥
-
--- the run ended before it read the input
-abbrev pub IsUnopened : JournalEnd → Type 0
-IsUnopened (end.Answered e) = ⊥
-IsUnopened end.AppendFault = ⊥
-IsUnopened end.LoadFault = ⊤
-IsUnopened (end.Broken place) = ⊤
-IsUnopened end.OverBudget = ⊤
-IsUnopened end.NoMemory = ⊤
-
--- whether opening failed with a journal fault
-abbrev pub is_load_fault : Result (Unit {0}) JournalEnd → Bool
-is_load_fault (Ok done) = false
-is_load_fault (Err end.LoadFault) = true
-is_load_fault (Err other) = false
+-- ---- answering
 
 -- what was written for an input with these bytes, by the end; `failed` gives the exchange, by whether the journal
 -- failed
 abbrev pub Wrote : JournalEnd → (failed : Bool → Exchange journaled) → (budget : ℕ) → List ℕ → (left : Option (List ℕ)) → Type 0
 Wrote (end.Answered e) failed budget bytes left = WrittenAndTaken (failed false) budget bytes left e
 Wrote end.AppendFault failed budget bytes left = NotJournaledTaken (failed true) budget bytes left
-Wrote other failed budget bytes left = ⊥
+Wrote (end.NotLoaded fault) failed budget bytes left = ⊥
 
 -- How an input with these bytes was answered. If no fault counter rose, the status is that of the input, or out of
 -- memory.
@@ -189,11 +149,11 @@ pub record IsAnswered (ended : JournalEnd) (failed : Bool → Exchange journaled
   pub written : Wrote ended failed budget bytes left
   pub complete : (Rose reads reads' → ⊥) → (Rose writes writes' → ⊥) → (Rose faults faults' → ⊥) → IsOutOfMemoryOr (status_of ended) (status_piped limits budget bytes)
 
--- an end is a fault if and only if its fault counter rose
-pub record HasJournalCauses (ended : JournalEnd) (reads reads' writes writes' faults faults' : ℕ) : Type 0 where
-  pub read : ended ≡ end.Answered piped.ReadFault → Rose reads reads'
-  pub write : ended ≡ end.Answered piped.WriteFault → Rose writes writes'
-  pub failed : status_of ended ≡ status.JournalFault → Rose faults faults'
-  pub unread : ended ≢ end.Answered piped.ReadFault → reads' ≡ reads
-  pub unwritten : ended ≢ end.Answered piped.WriteFault → writes' ≡ writes
-  pub unfailed : status_of ended ≢ status.JournalFault → faults' ≡ faults
+-- a status tells of a fault if and only if its counter rose
+pub record HasJournalCauses (told : Status) (reads reads' writes writes' faults faults' : ℕ) : Type 0 where
+  pub read : told ≡ status.ReadFault → Rose reads reads'
+  pub write : told ≡ status.WriteFault → Rose writes writes'
+  pub failed : told ≡ status.JournalFault → Rose faults faults'
+  pub unread : told ≢ status.ReadFault → reads' ≡ reads
+  pub unwritten : told ≢ status.WriteFault → writes' ≡ writes
+  pub unfailed : told ≢ status.JournalFault → faults' ≡ faults

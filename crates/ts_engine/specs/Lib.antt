@@ -6,6 +6,7 @@ pub mod Generated
 pub mod SessionEnd
 pub mod Headline
 pub mod HostPrefixes
+pub mod Opening
 pub mod Journaled
 pub mod JournalAppends
 pub mod JournalPrefixes

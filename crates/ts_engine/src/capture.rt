@@ -2,6 +2,7 @@
 ghost use Rattle.std.specs.Prelude.{◌≡◌, ◌≢◌, ◌⊎◌, ◌≤◌, ℕ, List, Some};
 ghost use Rattle.ts_io.specs.Causes.{Rose};
 ghost use Rattle.ts_engine.specs.Captured.{Captured, HasCaptureLine, status_captured};
+ghost use Rattle.ts_engine.specs.Headline.{run_view};
 ghost use Rattle.ts_engine.specs.Top.{AreUsable, NoneRose};
 
 use crate::capture_run::capture_session;
@@ -25,13 +26,7 @@ pub(crate) fn answer_capture<S: Source, K: Sink, E: Sink, C: Clock>(
     requires limits { AreUsable limits }
     requires budget { 1 ≤ budget }
     ensures captured { (bytes : List ℕ) → S.left input.old ≡ Some bytes → Captured
-        (record {
-          limits = limits;
-          readings = C.readings clock.old;
-          readings_left = C.readings clock.new;
-          had = K.has out.old;
-          has = K.has out.new;
-        })
+        (run_view C.readings K.has limits clock.old clock.new out.old out.new)
         budget bytes (S.left input.new) (E.has err.old) (E.has err.new) result }
     ensures complete { (bytes : List ℕ) → S.left input.old ≡ Some bytes
         → NoneRose (S.faults input.old) (S.faults input.new) (K.faults out.old) (K.faults out.new) (E.faults err.old)

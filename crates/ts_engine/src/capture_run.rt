@@ -8,6 +8,7 @@ ghost use Rattle.ts_engine.specs.CaptureSteps.{CaptureRun, Pumped, HasCauses, Ha
 ghost use Rattle.ts_engine.specs.CaptureView.{capture_progress, frames_in, HasAnswered};
 
 use crate::capture_session::{CaptureGo, CaptureSession};
+use crate::piped::PIECE;
 use std::alloc::Global;
 use ts_db::Db;
 use ts_io::{Clock, Sink, Source};
@@ -70,9 +71,6 @@ struct CaptureRead {
     taken: usize,
     end: Option<CaptureEnd>,
 }
-
-/// The most bytes that one read asks for.
-const PIECE: usize = 4096;
 
 /// Answers the interleaved connections of a capture. Reads at most `budget` bytes. Writes each reply, as a frame of its
 /// connection, before it executes the next request, and reads on only after every complete frame was answered.

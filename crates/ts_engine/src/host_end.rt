@@ -2,7 +2,7 @@
 ghost use Rattle.std.specs.Prelude.{◌≡◌};
 ghost use Rattle.ts_engine.specs.HostEnds as ends;
 
-use crate::journaling::JournalEnd;
+use crate::opened::{LoadFault, unloaded_place, unloaded_status};
 use ts_host::{HostFault, HubEnd};
 use ts_words::Status;
 
@@ -17,8 +17,8 @@ pub(crate) enum HostEnd {
     NotOpened,
     /// Out of memory before the address was opened.
     NoMemory,
-    /// The journal could not be loaded.
-    NotLoaded(JournalEnd),
+    /// The journal was not loaded.
+    NotLoaded(LoadFault),
 }
 
 impl HostEnd {
@@ -31,7 +31,7 @@ impl HostEnd {
             HostEnd::NotReady => Status::WriteFault,
             HostEnd::NotOpened => Status::AcceptFault,
             HostEnd::NoMemory => Status::Memory,
-            HostEnd::NotLoaded(end) => end.status(),
+            HostEnd::NotLoaded(fault) => unloaded_status(fault),
         }
     }
 
@@ -40,7 +40,7 @@ impl HostEnd {
         ensures { result ≡ ends.place_of self }
     {
         match self {
-            HostEnd::NotLoaded(end) => end.place(),
+            HostEnd::NotLoaded(fault) => unloaded_place(fault),
             HostEnd::Served(_) | HostEnd::NotReady | HostEnd::NotOpened | HostEnd::NoMemory => 0,
         }
     }

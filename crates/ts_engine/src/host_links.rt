@@ -1,5 +1,5 @@
 // Serves the links of a hub on a loaded database.
-ghost use Rattle.std.specs.Prelude.{◌≡◌, ◌≤◌, false, IfOk};
+ghost use Rattle.std.specs.Prelude.{◌≡◌, false, IfOk};
 ghost use Rattle.ts_db.specs.DbState.{Simulates};
 ghost use Rattle.ts_execution.specs.Journaling.{kept};
 ghost use Rattle.ts_execution.specs.Limits.{CanRead};
@@ -8,7 +8,7 @@ ghost use Rattle.ts_host.specs.Shown.{host_log, lent_by};
 ghost use Rattle.ts_words.specs.Lines.{ready_line_of};
 ghost use Rattle.ts_engine.specs.HostEnds as ends;
 ghost use Rattle.ts_engine.specs.HostEnds.{HasHostCauses, IsLoaded};
-ghost use Rattle.ts_engine.specs.Hosted.{EndsFrom};
+ghost use Rattle.ts_engine.specs.Hosted.{EndsFrom, host_view};
 
 use crate::host_end::HostEnd;
 use crate::host_mode::HostOptions;
@@ -31,24 +31,8 @@ pub(crate) fn serve_links<H: Hub, K: Sink, C: Clock, J: Log, R: Recording<J>>(
 ) -> HostEnd
     requires limits { CanRead options.now.limits.wire }
     ensures ends { Simulates db.old db.new (λ from to. EndsFrom
-        (record {
-          address = options.now.address.now;
-          budget = options.now.budget;
-          seen = record {
-            limits = options.now.limits;
-            readings = C.readings clock.old;
-            readings_left = C.readings clock.new;
-            had = K.has out.old;
-            has = K.has out.new;
-          };
-          coming = H.coming hub.old;
-          coming_left = H.coming hub.new;
-          out = H.out hub.old;
-          out_left = H.out hub.new;
-          same_hub = hub.new ≡ hub.old;
-          same_output = out.new ≡ out.old;
-          same_clock = clock.new ≡ clock.old;
-        })
+        (host_view C.readings K.has H.coming H.out options.now.address.now options.now.limits options.now.budget
+        clock.old clock.new out.old out.new hub.old hub.new)
         (kept (C.readings clock.old) (J.content log.old) false from) (J.content log.new) result) }
     ensures loaded { IsLoaded result }
     ensures causes { HasHostCauses (ends.status_of result)
@@ -96,24 +80,8 @@ fn open_and_serve<H: Hub, K: Sink, C: Clock, J: Log, R: Recording<J>>(
     requires begins { Begins J.content options.now.limits.wire (host_log host.old) host.old }
     requires line { line.now ≡ ready_line_of options.now.address.now }
     ensures ends { Simulates db.old db.new (λ from to. EndsFrom
-        (record {
-          address = options.now.address.now;
-          budget = options.now.budget;
-          seen = record {
-            limits = options.now.limits;
-            readings = C.readings clock.old;
-            readings_left = C.readings clock.new;
-            had = K.has out.old;
-            has = K.has out.new;
-          };
-          coming = H.coming hub.old;
-          coming_left = H.coming hub.new;
-          out = H.out hub.old;
-          out_left = H.out hub.new;
-          same_hub = hub.new ≡ hub.old;
-          same_output = out.new ≡ out.old;
-          same_clock = clock.new ≡ clock.old;
-        })
+        (host_view C.readings K.has H.coming H.out options.now.address.now options.now.limits options.now.budget
+        clock.old clock.new out.old out.new hub.old hub.new)
         (kept (C.readings clock.old) (J.content (host_log host.old)) false from) (J.content (host_log host.new))
         result) }
     ensures lent { lent_by host.new ≡ lent_by host.old }

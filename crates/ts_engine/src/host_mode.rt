@@ -5,7 +5,7 @@ ghost use Rattle.ts_io.specs.declared.hub.Step.{Step};
 ghost use Rattle.ts_journal.specs.Limits.{IsBounded};
 ghost use Rattle.ts_host.specs.Steps.{weight};
 ghost use Rattle.ts_engine.specs.HostEnds.{NoHostFault, has_journal};
-ghost use Rattle.ts_engine.specs.Hosted.{EndsInMemory, EndsOver, Hosted, HasHostLine, status_hosted};
+ghost use Rattle.ts_engine.specs.Hosted.{EndsInMemory, EndsOver, Hosted, HasHostLine, status_hosted, host_view};
 ghost use Rattle.ts_engine.specs.Top.{AreUsable};
 
 use crate::host_run::host;
@@ -44,46 +44,14 @@ pub(crate) fn answer_host<H: Hub, K: Sink, E: Sink, C: Clock, J: Log>(
     ensures hosted { has_journal options.now.storage ≡ true → (journal : List ℕ)
         → J.content log.old ≡ Some journal → Hosted
         (EndsOver
-        (record {
-          address = options.now.address.now;
-          budget = options.now.budget;
-          seen = record {
-            limits = options.now.limits;
-            readings = C.readings clock.old;
-            readings_left = C.readings clock.new;
-            had = K.has out.old;
-            has = K.has out.new;
-          };
-          coming = H.coming hub.old;
-          coming_left = H.coming hub.new;
-          out = H.out hub.old;
-          out_left = H.out hub.new;
-          same_hub = hub.new ≡ hub.old;
-          same_output = out.new ≡ out.old;
-          same_clock = clock.new ≡ clock.old;
-        })
+        (host_view C.readings K.has H.coming H.out options.now.address.now options.now.limits options.now.budget
+        clock.old clock.new out.old out.new hub.old hub.new)
         journal (J.content log.new))
         options.now.storage (E.has err.old) (E.has err.new) result }
     ensures hosted_in_memory { options.now.storage ≡ Storage.Memory → Hosted
         (EndsInMemory
-        (record {
-          address = options.now.address.now;
-          budget = options.now.budget;
-          seen = record {
-            limits = options.now.limits;
-            readings = C.readings clock.old;
-            readings_left = C.readings clock.new;
-            had = K.has out.old;
-            has = K.has out.new;
-          };
-          coming = H.coming hub.old;
-          coming_left = H.coming hub.new;
-          out = H.out hub.old;
-          out_left = H.out hub.new;
-          same_hub = hub.new ≡ hub.old;
-          same_output = out.new ≡ out.old;
-          same_clock = clock.new ≡ clock.old;
-        }))
+        (host_view C.readings K.has H.coming H.out options.now.address.now options.now.limits options.now.budget
+        clock.old clock.new out.old out.new hub.old hub.new))
         options.now.storage (E.has err.old) (E.has err.new) result }
     ensures complete { has_journal options.now.storage ≡ true → (journal : List ℕ) (steps : List Step)
         → J.content log.old ≡ Some journal → H.coming hub.old ≡ Some steps → weight steps < options.now.budget

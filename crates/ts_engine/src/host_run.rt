@@ -3,7 +3,7 @@ ghost use Rattle.std.specs.Prelude.{◌≡◌, ◌≢◌, ◌≤◌, ℕ, true, 
 ghost use Rattle.ts_journal.specs.Limits.{IsBounded};
 ghost use Rattle.ts_engine.specs.HostEnds as ends;
 ghost use Rattle.ts_engine.specs.HostEnds.{HasHostCauses, IsLoaded, IsPossible, has_journal};
-ghost use Rattle.ts_engine.specs.Hosted.{EndsInMemory, EndsOver};
+ghost use Rattle.ts_engine.specs.Hosted.{EndsInMemory, EndsOver, host_view};
 ghost use Rattle.ts_engine.specs.Top.{AreUsable};
 
 use crate::host_end::HostEnd;
@@ -30,44 +30,12 @@ pub(crate) fn host<H: Hub, K: Sink, C: Clock, J: Log>(
     requires budget { 1 ≤ options.now.budget }
     ensures over { has_journal options.now.storage ≡ true → (journal : List ℕ)
         → J.content log.old ≡ Some journal → EndsOver
-        (record {
-          address = options.now.address.now;
-          budget = options.now.budget;
-          seen = record {
-            limits = options.now.limits;
-            readings = C.readings clock.old;
-            readings_left = C.readings clock.new;
-            had = K.has out.old;
-            has = K.has out.new;
-          };
-          coming = H.coming hub.old;
-          coming_left = H.coming hub.new;
-          out = H.out hub.old;
-          out_left = H.out hub.new;
-          same_hub = hub.new ≡ hub.old;
-          same_output = out.new ≡ out.old;
-          same_clock = clock.new ≡ clock.old;
-        })
+        (host_view C.readings K.has H.coming H.out options.now.address.now options.now.limits options.now.budget
+        clock.old clock.new out.old out.new hub.old hub.new)
         journal (J.content log.new) result }
     ensures in_memory { options.now.storage ≡ Storage.Memory → EndsInMemory
-        (record {
-          address = options.now.address.now;
-          budget = options.now.budget;
-          seen = record {
-            limits = options.now.limits;
-            readings = C.readings clock.old;
-            readings_left = C.readings clock.new;
-            had = K.has out.old;
-            has = K.has out.new;
-          };
-          coming = H.coming hub.old;
-          coming_left = H.coming hub.new;
-          out = H.out hub.old;
-          out_left = H.out hub.new;
-          same_hub = hub.new ≡ hub.old;
-          same_output = out.new ≡ out.old;
-          same_clock = clock.new ≡ clock.old;
-        })
+        (host_view C.readings K.has H.coming H.out options.now.address.now options.now.limits options.now.budget
+        clock.old clock.new out.old out.new hub.old hub.new)
         result }
     ensures possible { IsPossible options.now.storage result }
     ensures unused { options.now.storage ≡ Storage.Memory → ends.status_of result ≢ Status.JournalFault }
@@ -93,24 +61,8 @@ fn host_in_memory<H: Hub, K: Sink, C: Clock>(
 ) -> HostEnd
     requires limits { AreUsable options.now.limits }
     ensures ends { EndsInMemory
-        (record {
-          address = options.now.address.now;
-          budget = options.now.budget;
-          seen = record {
-            limits = options.now.limits;
-            readings = C.readings clock.old;
-            readings_left = C.readings clock.new;
-            had = K.has out.old;
-            has = K.has out.new;
-          };
-          coming = H.coming hub.old;
-          coming_left = H.coming hub.new;
-          out = H.out hub.old;
-          out_left = H.out hub.new;
-          same_hub = hub.new ≡ hub.old;
-          same_output = out.new ≡ out.old;
-          same_clock = clock.new ≡ clock.old;
-        })
+        (host_view C.readings K.has H.coming H.out options.now.address.now options.now.limits options.now.budget
+        clock.old clock.new out.old out.new hub.old hub.new)
         result }
     ensures loaded { IsLoaded result }
     ensures causes { HasHostCauses (ends.status_of result)
@@ -135,24 +87,8 @@ fn host_journal<H: Hub, K: Sink, C: Clock, J: Log>(
     requires bounded { IsBounded options.now.limits.wire }
     requires budget { 1 ≤ options.now.budget }
     ensures ends { (journal : List ℕ) → J.content log.old ≡ Some journal → EndsOver
-        (record {
-          address = options.now.address.now;
-          budget = options.now.budget;
-          seen = record {
-            limits = options.now.limits;
-            readings = C.readings clock.old;
-            readings_left = C.readings clock.new;
-            had = K.has out.old;
-            has = K.has out.new;
-          };
-          coming = H.coming hub.old;
-          coming_left = H.coming hub.new;
-          out = H.out hub.old;
-          out_left = H.out hub.new;
-          same_hub = hub.new ≡ hub.old;
-          same_output = out.new ≡ out.old;
-          same_clock = clock.new ≡ clock.old;
-        })
+        (host_view C.readings K.has H.coming H.out options.now.address.now options.now.limits options.now.budget
+        clock.old clock.new out.old out.new hub.old hub.new)
         journal (J.content log.new) result }
     ensures possible { IsPossible Storage.Journal result }
     ensures causes { HasHostCauses (ends.status_of result)
@@ -165,6 +101,6 @@ fn host_journal<H: Hub, K: Sink, C: Clock, J: Log>(
         Ok(()) => {
             serve_links::<H, K, C, J, InJournal>(alloc, &mut db, options, hub, out, clock, log)
         }
-        Err(end) => HostEnd::NotLoaded(end),
+        Err(fault) => HostEnd::NotLoaded(fault),
     }
 }

@@ -1,18 +1,15 @@
 // A run with a journal: how it ends, and the request handler that appends records.
-ghost use Rattle.std.specs.Prelude.{◌≡◌, ◌≤◌, List, ℕ, false, Option};
-ghost use Rattle.ts_db.specs.DbState.{Simulates};
-ghost use Rattle.ts_execution.specs.Journaling.{journal_handler, kept};
-ghost use Rattle.ts_execution.specs.Limits.{CanRead};
-ghost use Rattle.ts_engine.specs.Piping.{PipedWith, HasCausesWith};
+ghost use Rattle.std.specs.Prelude.{◌≡◌};
+ghost use Rattle.ts_execution.specs.Journaling.{journal_handler};
 ghost use Rattle.ts_engine.specs.Journaled as journaled;
 
-use crate::piped::{End, Outcome, pipe_with};
-use std::alloc::Global;
+use crate::opened::{LoadFault, unloaded_place, unloaded_status};
+use crate::piped::End;
 use std::sync::ledger::Ledger;
 use ts_db::{Db, Hints};
 use ts_execution::Handler;
-use ts_io::{Clock, Failed, Log, Sink, Source, write_all_counted};
-use ts_resp::{Out, WireLimits, Word};
+use ts_io::{Clock, Failed, Log, Sink, write_all_counted};
+use ts_resp::{Out, Word};
 use ts_sample::Steps;
 use ts_words::Status;
 
@@ -23,14 +20,8 @@ pub(crate) enum JournalEnd {
     Answered(End),
     /// The journal was loaded, but later a record could not be appended.
     AppendFault,
-    /// The journal could not be opened, read or truncated.
-    LoadFault,
-    /// The journal was read to its end, and breaks at this offset.
-    Broken(u64),
-    /// The journal is not shorter than the budget.
-    OverBudget,
-    /// Out of memory while loading the journal.
-    NoMemory,
+    /// The journal was not loaded.
+    NotLoaded(LoadFault),
 }
 
 impl JournalEnd {
@@ -40,10 +31,8 @@ impl JournalEnd {
     {
         match self {
             JournalEnd::Answered(end) => end.status(),
-            JournalEnd::AppendFault | JournalEnd::LoadFault => Status::JournalFault,
-            JournalEnd::Broken(_) => Status::JournalBroken,
-            JournalEnd::OverBudget => Status::Budget,
-            JournalEnd::NoMemory => Status::Memory,
+            JournalEnd::AppendFault => Status::JournalFault,
+            JournalEnd::NotLoaded(fault) => unloaded_status(fault),
         }
     }
 
@@ -53,11 +42,8 @@ impl JournalEnd {
     {
         match self {
             JournalEnd::Answered(end) => end.place(),
-            JournalEnd::Broken(place) => place,
-            JournalEnd::AppendFault
-            | JournalEnd::LoadFault
-            | JournalEnd::OverBudget
-            | JournalEnd::NoMemory => 0,
+            JournalEnd::AppendFault => 0,
+            JournalEnd::NotLoaded(fault) => unloaded_place(fault),
         }
     }
 }
@@ -97,44 +83,5 @@ impl<J: Log> Handler for Journaled<'_, J> {
             },
             Err(failed) => Err(failed),
         }
-    }
-}
-
-/// The outcome of a stream with a journal.
-#[derive(Clone, Copy, Debug, PartialEq, Eq)]
-pub(crate) struct JournaledOutcome {
-    /// If the journal failed, its end is a write fault.
-    pub(crate) outcome: Outcome,
-    pub(crate) failed: bool,
-}
-
-/// Answers the requests of an input like `pipe`, and appends the record of each change to the journal before it writes
-/// the reply. If the journal fails, it writes nothing of that reply, and the stream ends.
-pub(crate) fn pipe_journaled<S: Source, K: Sink, C: Clock, J: Log>(
-    alloc: Global,
-    db: &mut Db,
-    input: &mut S,
-    out: &mut K,
-    clock: &mut C,
-    log: &mut J,
-    limits: WireLimits,
-    budget: u64,
-) -> JournaledOutcome
-    requires limits { CanRead limits }
-    requires budget { 1 ≤ budget }
-    ensures kept { Simulates db.old db.new (λ from to. PipedWith journal_handler limits budget result.outcome
-        (kept (C.readings clock.old) (J.content log.old) false from)
-        (kept (C.readings clock.new) (J.content log.new) result.failed to)
-        (S.left input.old) (S.left input.new) (K.has out.old) (K.has out.new)) }
-    ensures causes { HasCausesWith journal_handler result.outcome.end (S.faults input.old) (S.faults input.new)
-        (K.faults out.old) (K.faults out.new)
-        (record { failed = false; count = J.faults log.old })
-        (record { failed = result.failed; count = J.faults log.new }) }
-{
-    let mut handler = Journaled { log, failed: false };
-    let outcome = pipe_with(alloc, &mut handler, db, input, out, clock, limits, budget);
-    JournaledOutcome {
-        outcome,
-        failed: handler.failed,
     }
 }

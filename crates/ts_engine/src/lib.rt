@@ -6,6 +6,7 @@ mod appending;
 mod capture;
 mod capture_run;
 mod capture_session;
+mod ending;
 mod framing;
 mod generated;
 mod host_end;

@@ -1,13 +1,12 @@
 // Answers a whole input.
 ghost use Rattle.std.specs.Prelude.{◌≡◌, ◌+◌, ◌<◌, ◌≤◌, ◌^◌, length, None, Some};
-ghost use Rattle.ts_resp.specs.Reading.{fed, unfinished};
+ghost use Rattle.ts_resp.specs.Reading.{fed};
 ghost use Rattle.ts_db.specs.DbState.{Simulates};
 ghost use Rattle.ts_execution.specs.Limits.{CanRead};
 ghost use Rattle.ts_engine.specs.SessionView.{progress_in, reader_of, ended_of, HasAnswered};
 ghost use Rattle.ts_engine.specs.Piping.{Piped, PipedWith, Pumped, HasCauses, HasCausesWith, HasCausesWithOr};
-ghost use Rattle.ts_engine.specs.Ending.{end_at, end_by};
 
-use crate::replying::Go;
+use crate::ending::{end_of_input, end_of_piece};
 use crate::session::Session;
 use std::alloc::Global;
 use ts_db::Db;
@@ -44,15 +43,22 @@ pub struct Outcome {
     pub end: End,
 }
 
+/// What may be read of a stream.
+#[derive(Clone, Copy)]
+pub(crate) struct StreamLimits {
+    pub(crate) wire: WireLimits,
+    pub(crate) budget: u64,
+}
+
+/// The most bytes that one read asks for.
+pub(crate) const PIECE: usize = 4096;
+
 // The result of one read and of the requests that it completes.
 #[derive(Clone, Copy)]
 struct Step {
     taken: usize,
     end: Option<End>,
 }
-
-/// The most bytes that one read asks for.
-const PIECE: usize = 4096;
 
 /// Answers the requests of an input. Reads at most `budget` bytes. Writes each reply before it executes the next
 /// request, and reads on only after every complete request was answered. So at most 4096 bytes are read past a protocol
@@ -76,7 +82,9 @@ pub fn pipe<S: Source, K: Sink, C: Clock>(
     ensures causes { HasCauses result.end (S.faults input.old) (S.faults input.new) (K.faults out.old)
         (K.faults out.new) }
 {
-    pipe_with(alloc, &mut Plain, db, input, out, clock, limits, budget)
+    let wire = limits;
+    let limits = StreamLimits { wire, budget };
+    pipe_with(alloc, &mut Plain, db, input, out, clock, limits)
 }
 
 /// The same with any request handler.
@@ -87,21 +95,20 @@ pub(crate) fn pipe_with<T: Handler, S: Source, K: Sink, C: Clock>(
     input: &mut S,
     out: &mut K,
     clock: &mut C,
-    limits: WireLimits,
-    budget: u64,
+    limits: StreamLimits,
 ) -> Outcome
-    requires limits { CanRead limits }
-    requires budget { 1 ≤ budget }
-    ensures piped { Simulates db.old db.new (λ from to. PipedWith T.kind limits budget result
+    requires limits { CanRead limits.wire }
+    requires budget { 1 ≤ limits.budget }
+    ensures piped { Simulates db.old db.new (λ from to. PipedWith T.kind limits.wire limits.budget result
         (T.world handler.old from (C.readings clock.old)) (T.world handler.new to (C.readings clock.new))
         (S.left input.old) (S.left input.new) (K.has out.old) (K.has out.new)) }
-    ensures within { result.taken ≤ budget }
+    ensures within { result.taken ≤ limits.budget }
     ensures causes { HasCausesWith T.kind result.end (S.faults input.old) (S.faults input.new) (K.faults out.old)
         (K.faults out.new)
         (T.own handler.old) (T.own handler.new) }
     ensures lent { T.lent handler.new ≡ T.lent handler.old }
 {
-    let Ok(mut session) = Session::new(alloc, limits) else {
+    let Ok(mut session) = Session::new(alloc, limits.wire) else {
         return Outcome {
             executed: 0,
             taken: 0,
@@ -110,8 +117,8 @@ pub(crate) fn pipe_with<T: Handler, S: Source, K: Sink, C: Clock>(
     };
     let mut buffer = [0; PIECE];
     let mut taken = 0;
-    while taken < budget {
-        let most = (budget - taken).min(PIECE as u64) as usize;
+    while taken < limits.budget {
+        let most = (limits.budget - taken).min(PIECE as u64) as usize;
         let piece = &mut buffer[..most];
         let step = pump(&mut session, handler, db, input, out, clock, piece);
         taken += step.taken as u64;
@@ -175,28 +182,5 @@ fn pump<T: Handler, S: Source, K: Sink, C: Clock>(
             taken: 0,
             end: Some(End::ReadFault),
         },
-    }
-}
-
-// The end of the stream, if the input has ended.
-fn end_of_input(session: &Session) -> End
-    ensures { result ≡ end_at (unfinished (reader_of session.now)) }
-{
-    match session.place() {
-        None => End::Ended,
-        Some(place) => End::Truncated(place),
-    }
-}
-
-// The end that a session's result means, if it is one.
-fn end_of_piece(go: Go) -> Option<End>
-    ensures { result ≡ end_by go }
-{
-    match go {
-        Go::More => None,
-        Go::Quit => Some(End::Ended),
-        Go::Broken(fault) => Some(End::Protocol(fault)),
-        Go::WriteFault => Some(End::WriteFault),
-        Go::Memory => Some(End::Memory),
     }
 }

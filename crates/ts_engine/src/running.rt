@@ -7,19 +7,19 @@ ghost use Rattle.ts_host.specs.Steps.{weight};
 ghost use Rattle.ts_engine.specs.Asked.{asked, IsServe, IsGen, Connections, AllServed};
 ghost use Rattle.ts_engine.specs.Captured.{IsMux, Captured, HasCaptureLine, status_captured};
 ghost use Rattle.ts_engine.specs.Generated.{Workload};
-ghost use Rattle.ts_engine.specs.Headline.{RunView, ending, asks_to_quit};
+ghost use Rattle.ts_engine.specs.Headline.{ending, asks_to_quit, run_view};
 ghost use Rattle.ts_engine.specs.Journaled.{IsKeep, Journaled, HasJournalLine, status_journaled};
 ghost use Rattle.ts_engine.specs.HostEnds as ends;
 ghost use Rattle.ts_engine.specs.HostEnds.{IsHost, IsJournalHost, NoHostFault, has_journal};
-ghost use Rattle.ts_engine.specs.Hosted.{EndsInMemory, EndsOver, Hosted, HasHostLine, status_hosted};
+ghost use Rattle.ts_engine.specs.Hosted.{EndsInMemory, EndsOver, Hosted, HasHostLine, status_hosted, host_view};
 ghost use Rattle.ts_engine.specs.InputTaken.{InputTaken, HasStatusLine};
 ghost use Rattle.ts_engine.specs.Top.{AreUsable, IsPipe, Reports, Headline, status_by, status_cut, NoneRose};
 
-use crate::address::serve_address;
+use crate::address::{ServeOptions, serve_address};
 use crate::capture::answer_capture;
 use crate::generated::answer_workload;
 use crate::host_mode::{HostOptions, answer_host};
-use crate::keep::answer_journaled;
+use crate::keep::{KeepOptions, answer_journaled};
 use crate::piped::pipe;
 use crate::status::report;
 use std::alloc::Global;
@@ -40,9 +40,9 @@ pub fn usual_budget() -> u64
 /// - `gen SEED N` runs the workload of this seed with N changes, and writes its summary to `out`.
 /// - `keep FILE` loads the journal FILE through `log`, answers `input` like `pipe`, and appends the record of each
 ///   change to the journal before it writes the reply.
-/// - `host ADDRESS [FILE [sync]]` serves any number of links of `hub` at once, with the journal FILE or in memory alone. It
-///   writes `ready ADDRESS` to `out` as soon as links are accepted, and a line for each link that ends. The records of a
-///   wake-up are in the journal, with `sync` also on disk, before its replies leave.
+/// - `host ADDRESS [FILE [sync]]` serves any number of links of `hub` at once, with the journal FILE or in memory alone.
+///   It writes `ready ADDRESS` to `out` as soon as links are accepted, and a line for each link that ends. The records of
+///   a wake-up are in the journal, with `sync` also on disk, before its replies leave.
 /// - `mux` answers the interleaved connections of the capture in `input`, and writes each reply as a frame to `out`.
 ///
 /// Reads at most `budget` bytes of the input, of each connection and of the journal. Any status other than `Ended`
@@ -67,7 +67,7 @@ pub fn top<S: Source, K: Sink, E: Sink, C: Clock, N: Listener, J: Log, H: Hub>(
 
     // pipe: the output is the replies of a database of plain sample lists to the requests in the input.
     ensures headline { IsPipe words.now → (bytes : List ℕ) → S.left input.old ≡ Some bytes → Headline
-        (record { limits = limits; readings = C.readings clock.old; readings_left = C.readings clock.new; had = K.has out.old; has = K.has out.new })
+        (run_view C.readings K.has limits clock.old clock.new out.old out.new)
         budget bytes (S.left input.new) (E.has err.old) (E.has err.new) result }
 
     // If no device fails and the input is shorter than the budget, the status is that of the grammar, or out of memory.
@@ -87,7 +87,7 @@ pub fn top<S: Source, K: Sink, E: Sink, C: Clock, N: Listener, J: Log, H: Hub>(
 
     // Which prefix of the input is read, and what is left of it.
     ensures taken { IsPipe words.now → (bytes : List ℕ) → S.left input.old ≡ Some bytes → InputTaken
-        (record { limits = limits; readings = C.readings clock.old; readings_left = C.readings clock.new; had = K.has out.old; has = K.has out.new })
+        (run_view C.readings K.has limits clock.old clock.new out.old out.new)
         budget bytes (S.left input.new) (E.has err.old) (E.has err.new) result }
 
     // The status line of a status. Holds even if the input's bytes are unknown.
@@ -97,7 +97,7 @@ pub fn top<S: Source, K: Sink, E: Sink, C: Clock, N: Listener, J: Log, H: Hub>(
     // before left.
     ensures served { (links : ℕ) → asked words.now ≡ Some (Mode.Serve links) → Connections
         (record { left = N.In.left; reads = N.In.faults; has = N.Out.has; writes = N.Out.faults })
-        (record { limits = limits; readings = C.readings clock.old; readings_left = C.readings clock.new; had = K.has out.old; has = K.has out.new })
+        (run_view C.readings K.has limits clock.old clock.new out.old out.new)
         budget links (N.coming net.old) (N.coming net.new) (N.closed net.old) (N.closed net.new) (E.has err.old)
         (E.has err.new) result }
 
@@ -110,7 +110,7 @@ pub fn top<S: Source, K: Sink, E: Sink, C: Clock, N: Listener, J: Log, H: Hub>(
         → (Rose (N.faults net.old) (N.faults net.new) → ⊥) → (Rose (K.faults out.old) (K.faults out.new) → ⊥)
         → AllServed
         (record { left = N.In.left; reads = N.In.faults; has = N.Out.has; writes = N.Out.faults })
-        (record { limits = limits; readings = C.readings clock.old; readings_left = C.readings clock.new; had = K.has out.old; has = K.has out.new })
+        (run_view C.readings K.has limits clock.old clock.new out.old out.new)
         budget links (N.coming net.old) (N.coming net.new) (N.closed net.old) (N.closed net.new) result }
 
     // If neither the output nor `err` fails, the status is the good one, or out of memory.
@@ -121,7 +121,7 @@ pub fn top<S: Source, K: Sink, E: Sink, C: Clock, N: Listener, J: Log, H: Hub>(
     // mux: the output has one frame for each request of the interleaved connections, in order, with the reply of one
     // database of plain sample lists; and one for each protocol error, which closes its own connection alone.
     ensures captured { IsMux words.now → (bytes : List ℕ) → S.left input.old ≡ Some bytes → Captured
-        (record { limits = limits; readings = C.readings clock.old; readings_left = C.readings clock.new; had = K.has out.old; has = K.has out.new })
+        (run_view C.readings K.has limits clock.old clock.new out.old out.new)
         budget bytes (S.left input.new) (E.has err.old) (E.has err.new) result }
 
     // If no device fails, the status is that of the bytes that may be read, or out of memory.
@@ -141,7 +141,7 @@ pub fn top<S: Source, K: Sink, E: Sink, C: Clock, N: Listener, J: Log, H: Hub>(
     ensures journaled { IsKeep words.now → (journal bytes : List ℕ) → J.content log.old ≡ Some journal
         → S.left input.old ≡ Some bytes → Journaled
         (record {
-          seen = record { limits = limits; readings = C.readings clock.old; readings_left = C.readings clock.new; had = K.has out.old; has = K.has out.new };
+          seen = run_view C.readings K.has limits clock.old clock.new out.old out.new;
           journal = journal;
           journal_left = J.content log.new;
         })
@@ -165,36 +165,16 @@ pub fn top<S: Source, K: Sink, E: Sink, C: Clock, N: Listener, J: Log, H: Hub>(
     ensures hosted { (storage : Storage) → asked words.now ≡ Some (Mode.Host storage) → has_journal storage ≡ true
         → (journal : List ℕ) → J.content log.old ≡ Some journal → Hosted
         (EndsOver
-        (record {
-          address = ends.host_address words.now;
-          budget = budget;
-          seen = record { limits = limits; readings = C.readings clock.old; readings_left = C.readings clock.new; had = K.has out.old; has = K.has out.new };
-          coming = H.coming hub.old;
-          coming_left = H.coming hub.new;
-          out = H.out hub.old;
-          out_left = H.out hub.new;
-          same_hub = hub.new ≡ hub.old;
-          same_output = out.new ≡ out.old;
-          same_clock = clock.new ≡ clock.old;
-        })
+        (host_view C.readings K.has H.coming H.out (ends.host_address words.now) limits budget
+        clock.old clock.new out.old out.new hub.old hub.new)
         journal (J.content log.new))
         storage (E.has err.old) (E.has err.new) result }
 
     // host in memory alone: the same, on the empty database.
     ensures hosted_in_memory { asked words.now ≡ Some (Mode.Host Storage.Memory) → Hosted
         (EndsInMemory
-        (record {
-          address = ends.host_address words.now;
-          budget = budget;
-          seen = record { limits = limits; readings = C.readings clock.old; readings_left = C.readings clock.new; had = K.has out.old; has = K.has out.new };
-          coming = H.coming hub.old;
-          coming_left = H.coming hub.new;
-          out = H.out hub.old;
-          out_left = H.out hub.new;
-          same_hub = hub.new ≡ hub.old;
-          same_output = out.new ≡ out.old;
-          same_clock = clock.new ≡ clock.old;
-        }))
+        (host_view C.readings K.has H.coming H.out (ends.host_address words.now) limits budget
+        clock.old clock.new out.old out.new hub.old hub.new))
         Storage.Memory (E.has err.old) (E.has err.new) result }
 
     // If no device fails and the steps that come do not use up the budget, the status is that of the journal, or out of
@@ -266,13 +246,24 @@ pub fn top<S: Source, K: Sink, E: Sink, C: Clock, N: Listener, J: Log, H: Hub>(
             let outcome = pipe(alloc, &mut db, input, out, clock, limits.wire, budget);
             report(err, outcome.end.status(), outcome.end.place())
         }
-        Some(Mode::Serve(links)) => serve_address(
-            alloc, &words[1], net, out, err, clock, links, limits, budget,
-        ),
+        Some(Mode::Serve(links)) => {
+            let options = ServeOptions {
+                address: &words[1],
+                links,
+                limits,
+                budget,
+            };
+            serve_address(alloc, &options, net, out, err, clock)
+        }
         Some(Mode::Gen(seed, n)) => answer_workload(alloc, seed, n, out, err, limits),
-        Some(Mode::Keep) => answer_journaled(
-            alloc, &words[1], input, out, err, clock, log, limits, budget,
-        ),
+        Some(Mode::Keep) => {
+            let options = KeepOptions {
+                name: &words[1],
+                limits,
+                budget,
+            };
+            answer_journaled(alloc, &options, input, out, err, clock, log)
+        }
         Some(Mode::Host(storage)) => {
             let options = HostOptions {
                 address: host_address(words),

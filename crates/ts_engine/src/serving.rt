@@ -7,7 +7,7 @@ ghost use Rattle.ts_execution.specs.Limits.{CanRead};
 ghost use Rattle.ts_engine.specs.Serving.{Serves, line_at};
 ghost use Rattle.ts_engine.specs.Serving as lines;
 
-use crate::piped::{End, Outcome, pipe};
+use crate::piped::{End, Outcome, StreamLimits, pipe};
 use std::alloc::Global;
 use ts_db::Db;
 use ts_io::{Clock, Failed, Listener, Sink, write_all_counted};
@@ -58,8 +58,10 @@ pub fn serve<N: Listener, K: Sink, C: Clock>(
     ensures no_accept_fault { result ≢ Served.AcceptFault → N.faults net.new ≡ N.faults net.old }
     ensures no_write_fault { result ≢ Served.WriteFault → K.faults out.new ≡ K.faults out.old }
 {
+    let wire = limits;
     for link in 0..links {
-        match serve_link(alloc, db, net, out, clock, link + 1, limits, budget) {
+        let limits = StreamLimits { wire, budget };
+        match serve_link(alloc, db, net, out, clock, link + 1, limits) {
             Served::Done => {}
             fault => return fault,
         }
@@ -75,14 +77,13 @@ fn serve_link<N: Listener, K: Sink, C: Clock>(
     out: &mut K,
     clock: &mut C,
     number: u32,
-    limits: WireLimits,
-    budget: u64,
+    limits: StreamLimits,
 ) -> Served
-    requires limits { CanRead limits }
-    requires budget { 1 ≤ budget }
+    requires limits { CanRead limits.wire }
+    requires budget { 1 ≤ limits.budget }
     requires net { N.has_open_link net.old ≡ false }
     ensures serves { Simulates db.old db.new (λ from to. Serves
-        (record { left = N.In.left; reads = N.In.faults; has = N.Out.has; writes = N.Out.faults }) limits budget
+        (record { left = N.In.left; reads = N.In.faults; has = N.Out.has; writes = N.Out.faults }) limits.wire limits.budget
         result number 1
         (record { held = from; readings = C.readings clock.old })
         (record { held = to; readings = C.readings clock.new })
@@ -104,8 +105,8 @@ fn serve_link<N: Listener, K: Sink, C: Clock>(
         &mut ends.input,
         &mut ends.out,
         clock,
-        limits,
-        budget,
+        limits.wire,
+        limits.budget,
     );
     net.close(ends);
     match write_link(out, number, outcome) {

@@ -10,7 +10,7 @@ use std::sync::ledger::{Blank, Ledger};
 use ts_db::{Db, Hints};
 use ts_execution::{Handler, Plain};
 use ts_io::{Clock, Sink};
-use ts_resp::{Next, Out, Reader, WireLimits};
+use ts_resp::{Out, Reader, WireLimits};
 use ts_sample::Steps;
 
 /// Answers the requests of one stream, which arrives in pieces.
@@ -28,7 +28,7 @@ pub struct Session {
 impl Session {
     ghost use Rattle.ts_resp.specs.Reading.{fed, unfinished};
     ghost use Rattle.ts_db.specs.DbState.{Simulates};
-    ghost use Rattle.ts_engine.specs.Session.{GoesOn, HandledAs, HasCauseWith, WroteOrFault};
+    ghost use Rattle.ts_engine.specs.Session.{HandledAs, HasCauseWith, WroteOrFault};
     ghost use Rattle.ts_engine.specs.SessionView.{progress_over, progress_in, reader_of, executed_by, ended_of, Begins};
     ghost use Rattle.ts_engine.specs.SessionView.{HasAnswered};
 
@@ -172,36 +172,6 @@ impl Session {
             if let Some(go) = self.answer_next(handler, db, clock, out, steps) {
                 return go;
             }
-        }
-    }
-
-    // Frees the memory of a huge reply, and answers the next request. Returns `None` if more may follow.
-    fn answer_next<T: Handler, C: Clock, K: Sink, L: Ledger>(
-        &mut self,
-        handler: &mut T,
-        db: &mut Db,
-        clock: &mut C,
-        out: &mut K,
-        steps: &mut Steps<L>,
-    ) -> Option<Go>
-        ensures goes { Simulates db.old db.new (λ from to. GoesOn result
-            (progress_in T.kind self.old (T.world handler.old from (C.readings clock.old)))
-            (progress_in T.kind self.new (T.world handler.new to (C.readings clock.new))) (K.has out.old)
-            (K.has out.new)) }
-        ensures onward { result ≡ None → (reader_of self.old).begin < (reader_of self.new).begin }
-        ensures current { result ≡ Some Go.More → HasAnswered self.new }
-        ensures fed { fed (reader_of self.new) ≡ fed (reader_of self.old) }
-        ensures within { (reader_of self.new).begin ≤ fed (reader_of self.new) }
-        ensures cause { HasCauseWith T.kind result (K.faults out.old) (K.faults out.new) (T.own handler.old)
-            (T.own handler.new) }
-        ensures lent { T.lent handler.new ≡ T.lent handler.old }
-    {
-        self.room.give_back();
-        match self.reader.next() {
-            Next::Request(words) => self.answer(words, handler, db, clock, out, steps),
-            Next::NotYet => Some(Go::More),
-            Next::Memory => Some(Go::Memory),
-            Next::Broken(fault) => Some(self.reply_fault(fault, out)),
         }
     }
 }

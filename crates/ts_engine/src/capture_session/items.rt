@@ -1,5 +1,5 @@
 // Answers the requests and errors that a frame completes.
-ghost use Rattle.std.specs.Prelude.{◌≡◌, ◌<◌, ◌≤◌, ℕ, if◌then◌else◌, List, [], None, Some};
+ghost use Rattle.std.specs.Prelude.{◌≡◌, ◌<◌, ◌≤◌, if◌then◌else◌, List, [], None, Some};
 ghost use Rattle.ts_spec.specs.Run.{is_quit};
 ghost use Rattle.ts_db.specs.DbState.{Simulates};
 ghost use Rattle.ts_mux.specs.declared.frame.Frame.{Frame};

@@ -6,8 +6,8 @@ use Rattle.ts_words.specs.declared.status.Status.TheVariants as status
 use Rattle.ts_engine.specs.HostEnds.{status_of, place_of}
 use Rattle.ts_engine.specs.Top.{ReportsIn}
 use Rattle.ts_engine.proofs.HostLoads.{status-from, status-over}
-use Rattle.ts_engine.proofs.HostStatuses.{never, given-as, not-given, only-journal}
-use Rattle.ts_engine.proofs.Tops.{answered_as, as_meant}
+use Rattle.ts_engine.proofs.HostStatuses.{never, only-journal}
+use Rattle.ts_engine.proofs.Tops.{answered_as, as_meant, given-as, not-given}
 use Rattle.ts_engine.proofs.host_mode.answer_host.Goals as goal
 
 pub returns-clause-line : goal.returns-clause-line
@@ -57,7 +57,7 @@ returns-clause-only_journal g c = λ told.
 
 pub returns-clause-accept_fault : goal.returns-clause-accept_fault
 returns-clause-accept_fault g c = λ is.
-    c.host-end.ensures.causes.hub (given-as c.host-end.result status.AcceptFault c.status.result c.report_in.result (λ same. (cc)) is c.status.ensures c.report_in.ensures.same)
+    c.host-end.ensures.causes.hub (given-as _ status.AcceptFault c.status.result c.report_in.result (λ same. (cc)) is c.status.ensures c.report_in.ensures.same)
 
 pub returns-clause-write_fault : goal.returns-clause-write_fault
 returns-clause-write_fault g c = λ is.
@@ -66,18 +66,18 @@ returns-clause-write_fault g c = λ is.
 
 pub returns-clause-journal_fault : goal.returns-clause-journal_fault
 returns-clause-journal_fault g c = λ is.
-    c.host-end.ensures.causes.journal (given-as c.host-end.result status.JournalFault c.status.result c.report_in.result (λ same. (cc)) is c.status.ensures c.report_in.ensures.same)
+    c.host-end.ensures.causes.journal (given-as _ status.JournalFault c.status.result c.report_in.result (λ same. (cc)) is c.status.ensures c.report_in.ensures.same)
 
 pub returns-clause-no_accept_fault : goal.returns-clause-no_accept_fault
 returns-clause-no_accept_fault g c = λ no_accept no_write.
-    c.host-end.ensures.causes.no_hub (not-given c.host-end.result status.AcceptFault c.status.result c.report_in.result c.status.ensures c.report_in.ensures.same no_write no_accept)
+    c.host-end.ensures.causes.no_hub (not-given _ status.AcceptFault c.status.result c.report_in.result c.status.ensures c.report_in.ensures.same no_write no_accept)
 
 pub returns-clause-no_write_fault : goal.returns-clause-no_write_fault
 returns-clause-no_write_fault g c = λ no_write. (
-  c.host-end.ensures.causes.no_lines (not-given c.host-end.result status.WriteFault c.status.result c.report_in.result c.status.ensures c.report_in.ensures.same no_write no_write),
+  c.host-end.ensures.causes.no_lines (not-given _ status.WriteFault c.status.result c.report_in.result c.status.ensures c.report_in.ensures.same no_write no_write),
   c.report_in.ensures.no_fault no_write,
 )
 
 pub returns-clause-no_journal_fault : goal.returns-clause-no_journal_fault
 returns-clause-no_journal_fault g c = λ no_journal no_write.
-    c.host-end.ensures.causes.no_journal (not-given c.host-end.result status.JournalFault c.status.result c.report_in.result c.status.ensures c.report_in.ensures.same no_write no_journal)
+    c.host-end.ensures.causes.no_journal (not-given _ status.JournalFault c.status.result c.report_in.result c.status.ensures c.report_in.ensures.same no_write no_journal)

@@ -1,9 +1,11 @@
-use Rattle.std.proofs.Common.{◌≡◌, ℕ, refl, subst}
+use Rattle.std.specs.Prelude.{Err}
+use Rattle.std.proofs.Common.{ℕ, refl, ap, subst}
 use Rattle.ts_spec.specs.State.{empty}
 use Rattle.ts_words.specs.declared.mode.Storage.TheVariants as storage
 use Rattle.ts_engine.specs.HostEnds.{HasHostCauses, status_of}
-use Rattle.ts_engine.proofs.HostLoads.{opened-over, unopened-over}
+use Rattle.ts_engine.proofs.HostLoads.{opened-over}
 use Rattle.ts_engine.proofs.HostStatuses.{causes-unloaded, possible-loaded}
+use Rattle.ts_engine.proofs.Openings.{not-loaded}
 use Rattle.ts_engine.proofs.host_run.host_journal.Goals as goal
 
 pub returns-in-Ok-clause-ends : goal.returns-in-Ok-clause-ends
@@ -20,33 +22,16 @@ returns-in-Ok-clause-causes g c =
     subst (λ (n : ℕ). HasHostCauses (status_of c.serve_links.result)
     (record { hub = g.H.Hub.faults c.args.hub.now; lines = g.K.Sink.faults c.args.out.now; journal = n })
     (record { hub = g.H.Hub.faults c.serve_links.new.hub; lines = g.K.Sink.faults c.serve_links.new.out; journal = g.J.Log.faults c.serve_links.new.log }))
-    (c.in-Ok.ensures.no_fault refl) c.serve_links.ensures.causes
+    (c.in-Ok.ensures.no_fault (λ is. (cc))) c.serve_links.ensures.causes
 
 pub returns-clause-ends : goal.returns-clause-ends
 returns-clause-ends g c = λ journal has.
     let opened = c.in-Err.ensures.opened (record { limits = c.args.options.now.limits; state = empty }) c.new-db.ensures.stands in
-    unopened-over (record {
-      address = c.args.options.now.address.now;
-      budget = c.args.options.now.budget;
-      seen = record {
-        limits = c.args.options.now.limits;
-        readings = g.C.Clock.readings c.args.clock.now;
-        readings_left = g.C.Clock.readings c.args.clock.now;
-        had = g.K.Sink.has c.args.out.now;
-        has = g.K.Sink.has c.args.out.now;
-      };
-      coming = g.H.Hub.coming c.args.hub.now;
-      coming_left = g.H.Hub.coming c.args.hub.now;
-      out = g.H.Hub.out c.args.hub.now;
-      out_left = g.H.Hub.out c.args.hub.now;
-      same_hub = c.args.hub.now ≡ c.args.hub.now;
-      same_output = c.args.out.now ≡ c.args.out.now;
-      same_clock = c.args.clock.now ≡ c.args.clock.now;
-    })
-    journal _ opened.to c.in-Err.end refl refl refl (opened.done journal has)
+    not-loaded c.in-Err.fault c.args.options.now.limits c.args.options.now.budget opened.to journal _ _ (λ same. (refl, refl, refl, same)) (opened.done journal has)
 
 pub returns-clause-possible : goal.returns-clause-possible
-returns-clause-possible g c = (refl, c.in-Err.ensures.ends)
+returns-clause-possible g c = refl
 
 pub returns-clause-causes : goal.returns-clause-causes
-returns-clause-causes g c = causes-unloaded c.in-Err.end _ _ _ _ c.in-Err.ensures.ends c.in-Err.ensures.fault c.in-Err.ensures.no_fault
+returns-clause-causes g c =
+    causes-unloaded c.in-Err.fault _ _ _ _ (λ is. c.in-Err.ensures.fault (ap Err is)) (λ other. c.in-Err.ensures.no_fault (λ is. other (cc)))

@@ -3,12 +3,10 @@ use Rattle.std.specs.Prelude.{Some}
 use Rattle.ts_words.specs.declared.mode.Mode.TheVariants as mode
 use Rattle.ts_words.specs.declared.status.Status.{Status}
 use Rattle.ts_words.specs.declared.status.Status.TheVariants as status
-use Rattle.ts_engine.specs.declared.journaling.JournalEnd.TheVariants as ended
-use Rattle.ts_engine.specs.declared.piped.End.TheVariants as end
 use Rattle.ts_engine.specs.Journaled.{status_of, place_of}
 use Rattle.ts_engine.specs.Top.{ReportsIn}
-use Rattle.ts_engine.proofs.JournaledRuns.{never, read-meant, write-meant, given-as, not-given}
-use Rattle.ts_engine.proofs.Tops.{answered_as, as_meant, not_meant}
+use Rattle.ts_engine.proofs.JournaledRuns.{never}
+use Rattle.ts_engine.proofs.Tops.{answered_as, as_meant, given-as, not-given}
 use Rattle.ts_engine.proofs.keep.answer_journaled.Goals as goal
 
 pub returns-clause-line : goal.returns-clause-line
@@ -41,30 +39,27 @@ returns-clause-no_capture g c = λ is. (never c.keep-end.result c.status.result 
 
 pub returns-clause-read_fault : goal.returns-clause-read_fault
 returns-clause-read_fault g c = λ is.
-    c.keep-end.ensures.causes.read (read-meant c.keep-end.result
-    (given-as c.keep-end.result status.ReadFault c.status.result c.report_in.result (λ same. (cc)) is c.status.ensures c.report_in.ensures.same))
+    c.keep-end.ensures.causes.read (given-as _ status.ReadFault c.status.result c.report_in.result (λ same. (cc)) is c.status.ensures c.report_in.ensures.same)
 
 pub returns-clause-write_fault : goal.returns-clause-write_fault
 returns-clause-write_fault g c = λ is.
-    ⊎_elim (λ (meant : c.status.result ≡ status.WriteFault). inl (c.keep-end.ensures.causes.write (write-meant c.keep-end.result (rw c.status.ensures at meant))))
+    ⊎_elim (λ (meant : c.status.result ≡ status.WriteFault). inl (c.keep-end.ensures.causes.write (rw c.status.ensures at meant)))
     (λ rose. inr rose) (c.report_in.ensures.cause is)
 
 pub returns-clause-journal_fault : goal.returns-clause-journal_fault
 returns-clause-journal_fault g c = λ is.
-    c.keep-end.ensures.causes.failed (given-as c.keep-end.result status.JournalFault c.status.result c.report_in.result (λ same. (cc)) is c.status.ensures c.report_in.ensures.same)
+    c.keep-end.ensures.causes.failed (given-as _ status.JournalFault c.status.result c.report_in.result (λ same. (cc)) is c.status.ensures c.report_in.ensures.same)
 
 pub returns-clause-no_read_fault : goal.returns-clause-no_read_fault
 returns-clause-no_read_fault g c = λ no_read no_write.
-    c.keep-end.ensures.causes.unread (not_meant status_of c.keep-end.result (ended.Answered end.ReadFault) c.status.result c.report_in.result
-    c.status.ensures c.report_in.ensures.same no_write no_read)
+    c.keep-end.ensures.causes.unread (not-given _ status.ReadFault c.status.result c.report_in.result c.status.ensures c.report_in.ensures.same no_write no_read)
 
 pub returns-clause-no_write_fault : goal.returns-clause-no_write_fault
 returns-clause-no_write_fault g c = λ no_write. (
-  c.keep-end.ensures.causes.unwritten (not_meant status_of c.keep-end.result (ended.Answered end.WriteFault) c.status.result c.report_in.result
-      c.status.ensures c.report_in.ensures.same no_write no_write),
+  c.keep-end.ensures.causes.unwritten (not-given _ status.WriteFault c.status.result c.report_in.result c.status.ensures c.report_in.ensures.same no_write no_write),
   c.report_in.ensures.no_fault no_write,
 )
 
 pub returns-clause-no_journal_fault : goal.returns-clause-no_journal_fault
 returns-clause-no_journal_fault g c = λ no_journal no_write.
-    c.keep-end.ensures.causes.unfailed (not-given c.keep-end.result status.JournalFault c.status.result c.report_in.result c.status.ensures c.report_in.ensures.same no_write no_journal)
+    c.keep-end.ensures.causes.unfailed (not-given _ status.JournalFault c.status.result c.report_in.result c.status.ensures c.report_in.ensures.same no_write no_journal)

@@ -6,12 +6,12 @@ use Rattle.ts_engine.proofs.Pipes.{so_far_none, so_far_more, piped_end, piped_bu
 use Rattle.ts_engine.proofs.piped.pipe_with.Goals as goal
 
 pub returns-in_default-clause-piped : goal.returns-in_default-clause-piped
-returns-in_default-clause-piped g c = carries_none _ _ (λ from stands. piped_none {handler = g.T.Handler.kind} c.args.limits c.args.budget _ _ _)
+returns-in_default-clause-piped g c = carries_none _ _ (λ from stands. piped_none {handler = g.T.Handler.kind} c.args.limits.wire c.args.limits.budget _ _ _)
 
 pub loop-taken-init : goal.loop-taken-init
 loop-taken-init g c = record {
-  so_far = carries_none _ _ (λ from stands. so_far_none c.args.limits (progress_in g.T.Handler.kind c.in-Ok.session (g.T.Handler.world c.args.handler.now from (g.C.Clock.readings c.args.clock.now))) _ _ c.in-Ok.ensures.stream c.in-Ok.ensures.executed);
-  current = begins_current _ c.args.limits c.in-Ok.ensures.stream c.in-Ok.ensures.place;
+  so_far = carries_none _ _ (λ from stands. so_far_none c.args.limits.wire (progress_in g.T.Handler.kind c.in-Ok.session (g.T.Handler.world c.args.handler.now from (g.C.Clock.readings c.args.clock.now))) _ _ c.in-Ok.ensures.stream c.in-Ok.ensures.executed);
+  current = begins_current _ c.args.limits.wire c.in-Ok.ensures.stream c.in-Ok.ensures.place;
   goes_on = c.in-Ok.ensures.ended;
   fed = c.in-Ok.ensures.fed;
   within = omega arith;
@@ -39,7 +39,7 @@ loop-taken-preserved g c =
 pub returns-in-Some-clause-piped : goal.returns-in-Some-clause-piped
 returns-in-Some-clause-piped g c =
     carries_then _ _ _ _ _ _ (λ from between to so pumped.
-    piped_end _ _ _ _ _ _ _ _ so c.args.budget c.executed.result c.pump-step.result c.in-Some.end _ _ _ c.executed.ensures (search rules) (search rules) c.in-Some.is c.pump-step.ensures.unspent
+    piped_end _ _ _ _ _ _ _ _ so c.args.limits.budget c.executed.result c.pump-step.result c.in-Some.end _ _ _ c.executed.ensures (search rules) (search rules) c.in-Some.is c.pump-step.ensures.unspent
     (record { rest = c.loop-taken.invariant.current }) c.loop-taken.invariant.fed (search rules) pumped) c.loop-taken.invariant.so_far c.pump-step.ensures.pumped
 
 pub returns-in-Some-clause-causes : goal.returns-in-Some-clause-causes
@@ -52,4 +52,4 @@ returns-in-Some-clause-causes g c =
 pub returns-clause-piped : goal.returns-clause-piped
 returns-clause-piped g c =
     carries_as _ _ _ _ (λ from to so.
-    piped_budget _ _ _ _ _ _ _ _ so c.args.budget c.executed-2.result c.executed-2.ensures (omega arith) (record { rest = c.loop-taken.invariant.current })) c.loop-taken.invariant.so_far
+    piped_budget _ _ _ _ _ _ _ _ so c.args.limits.budget c.executed-2.result c.executed-2.ensures (omega arith) (record { rest = c.loop-taken.invariant.current })) c.loop-taken.invariant.so_far
