@@ -10,6 +10,7 @@
 //! - `seen FROM TO`: prints the samples that a lookup finds;
 //! - `long look-ups`, `long late` and `long order FACTOR`: print whether, in a long packed chunk, lookups find the
 //!   list's samples, a late sample gets its place, and samples in this order give the bytes of the format;
+//! - `bytes LIMIT HEX`: makes a packed chunk of these bytes and prints it, or `none` if they are no chunk's;
 //! - `small`: prints whether a packed chunk takes at most 160 bytes beside its samples, so that a chunk without marks
 //!   allocates none.
 //!
@@ -17,6 +18,7 @@
 #![tactic(auto)]
 
 mod long;
+mod restored;
 mod texts;
 mod trial;
 

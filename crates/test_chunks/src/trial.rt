@@ -4,6 +4,7 @@ ghost use Rattle.ts_sample.specs.Chunk.{IsPast};
 ghost use Rattle.ts_spec.specs.Sample.{last_of};
 
 use crate::long::long_text;
+use crate::restored::restored_text;
 use crate::texts::{between, chunk_text, chunks_text, interval_of, sample_of, samples_text};
 use std::alloc::{AllocError, Global};
 use std::sync::ledger::Ledger;
@@ -157,6 +158,9 @@ impl BothFormats {
         }
         if let Some(rest) = line.strip_prefix("long ") {
             return long_text(self.alloc, rest, steps);
+        }
+        if let Some(rest) = line.strip_prefix("bytes ") {
+            return restored_text(self.alloc, rest, steps);
         }
         if line == "small" {
             let small = size_of::<PackedChunk>() <= 160;
