@@ -1,10 +1,7 @@
-// Commands, and whether one needs the clock.
+// Commands.
 ghost use Rattle.std.specs.Result.{ForErr, ForOk};
-ghost use Rattle.std.specs.Prelude.{◌≡◌};
 ghost use Rattle.ts_spec.specs.Settings.{IsTime};
-ghost use Rattle.ts_spec.specs.Grammar.{is_clock, is_clock_at, any_clock, needs_clock};
 ghost use Rattle.ts_command.specs.Faults.{IsNoMemory};
-ghost use Rattle.ts_command.specs.Reading.{triple_of, triples_of, command_of};
 
 use crate::fault::CommandFault;
 use crate::range_options::GroupBy;
@@ -138,46 +135,4 @@ pub struct Triple {
     ghost time_fits: { ForOk at IsTime },
     ghost time_no_memory: { ForErr at IsNoMemory },
     ghost value_no_memory: { ForErr value IsNoMemory },
-}
-
-impl Command {
-    /// Whether the command needs a clock reading: its time is `*`, or is optional and missing.
-    pub fn needs_clock(&self) -> bool
-        ensures { result ≡ needs_clock (command_of self.now) }
-    {
-        match self {
-            Command::Add { at, .. } | Command::Incr { at, .. } => is_clock(*at),
-            Command::Madd { triples } => any_clock(triples),
-            _ => false,
-        }
-    }
-}
-
-fn is_clock(at: At) -> bool
-    ensures { result ≡ is_clock at }
-{
-    match at {
-        At::Clock => true,
-        At::Time(_) => false,
-    }
-}
-
-fn has_clock(triple: &Triple) -> bool
-    ensures { result ≡ is_clock_at (triple_of triple.now).at }
-{
-    match &triple.at {
-        Ok(at) => is_clock(*at),
-        Err(_) => false,
-    }
-}
-
-fn any_clock(triples: &[Triple]) -> bool
-    ensures { result ≡ any_clock (triples_of triples.now) }
-{
-    for triple in triples {
-        if has_clock(triple) {
-            return true;
-        }
-    }
-    false
 }

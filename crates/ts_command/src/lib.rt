@@ -2,6 +2,7 @@
 //! reference; letter case does not matter.
 #![tactic(auto)]
 
+mod clock;
 mod command;
 mod fault;
 mod forms;

@@ -12,8 +12,9 @@ ghost use Rattle.ts_rules.specs.Deletions.{gone_of, left_of, is_lost, row_left, 
 ghost use Rattle.ts_rules.specs.Plans.{IsUpdate};
 ghost use Rattle.ts_rules.specs.DeletionBuffers.{HasCapacity, count_touched};
 
+use crate::open_bucket::{opened, row};
 use crate::plan::{RuleFault, updated_list};
-use crate::rule::{Rule, opened, row};
+use crate::rule::Rule;
 use std::sync::ledger::Ledger;
 use ts_agg::Running;
 use ts_sample::{Sample, SampleCollector, Steps, Visit};

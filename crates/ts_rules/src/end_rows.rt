@@ -12,7 +12,8 @@ ghost use Rattle.ts_rules.specs.Ends.{rows_at, is_first_in};
 
 use crate::count::ends_left;
 use crate::interval_cursor::IntervalCursor;
-use crate::rule::{Rule, row};
+use crate::open_bucket::row;
+use crate::rule::Rule;
 use std::sync::ledger::Ledger;
 use ts_agg::Running;
 use ts_sample::{Sample, Steps};

@@ -9,6 +9,7 @@ mod end_rows;
 mod fullness;
 mod interval_cursor;
 mod laws;
+mod open_bucket;
 mod plan;
 mod rule;
 mod rule_plans;
@@ -16,7 +17,8 @@ mod shared_bucket;
 mod write;
 
 pub use laws::plans_match_stored_state;
+pub use open_bucket::latest;
 pub use plan::{RuleFault, RulePlan};
-pub use rule::{Rule, latest};
+pub use rule::Rule;
 pub use rule_plans::{plan_delete, plan_put, plan_put_shared};
 pub use shared_bucket::SharedBucket;

@@ -13,7 +13,8 @@ ghost use Rattle.ts_rules.specs.SharedBucket.{IsShared};
 ghost use Rattle.ts_rules.specs.Writes.{rule_after, row_for_dest};
 
 use crate::count::count_written;
-use crate::rule::{Rule, latest, opened, row};
+use crate::open_bucket::{latest, opened, row};
+use crate::rule::Rule;
 use crate::shared_bucket::SharedBucket;
 use std::sync::ledger::Ledger;
 use ts_agg::Running;
