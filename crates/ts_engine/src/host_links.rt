@@ -14,13 +14,13 @@ use crate::host_end::HostEnd;
 use crate::host_mode::HostOptions;
 use std::alloc::{AllocError, Global};
 use ts_db::Db;
-use ts_host::{Host, ReplyBuffer, serve_hub};
+use ts_host::{Host, Recording, ReplyBuffer, serve_hub};
 use ts_io::{Clock, Hub, Log, Sink, write_all_counted};
 use ts_words::Storage;
 
-// Opens the address, writes the line `ready`, and serves the links. Adds the record of each change to `log`. The memory
-// for all of that is taken first.
-pub(crate) fn serve_links<H: Hub, K: Sink, C: Clock, J: Log>(
+// Opens the address, writes the line `ready`, and serves the links. `R` says whether changes are recorded in `log`. The
+// memory for all of that is taken first.
+pub(crate) fn serve_links<H: Hub, K: Sink, C: Clock, J: Log, R: Recording<J>>(
     alloc: Global,
     db: &mut Db,
     options: &HostOptions,
@@ -60,7 +60,9 @@ pub(crate) fn serve_links<H: Hub, K: Sink, C: Clock, J: Log>(
         Ok(line) => match ReplyBuffer::new(alloc) {
             Ok(replies) => {
                 let mut host = Host::new(alloc, log, syncs, options.limits.wire, replies);
-                let end = open_and_serve(&mut host, db, options, hub, out, clock, &line);
+                let end = open_and_serve::<H, K, C, J, R>(
+                    &mut host, db, options, hub, out, clock, &line,
+                );
                 host.into_log();
                 end
             }
@@ -82,7 +84,7 @@ fn ready_line(alloc: Global, address: &str) -> Result<Vec<u8>, AllocError>
 }
 
 // The same with a host that has received nothing, and the line `ready`.
-fn open_and_serve<H: Hub, K: Sink, C: Clock, J: Log>(
+fn open_and_serve<H: Hub, K: Sink, C: Clock, J: Log, R: Recording<J>>(
     host: &mut Host<'_, J>,
     db: &mut Db,
     options: &HostOptions,
@@ -122,7 +124,10 @@ fn open_and_serve<H: Hub, K: Sink, C: Clock, J: Log>(
 {
     match hub.open(options.address) {
         Ok(()) => match write_all_counted(out, line) {
-            Ok(()) => HostEnd::Served(serve_hub(host, db, hub, out, clock, options.budget)),
+            Ok(()) => {
+                let budget = options.budget;
+                HostEnd::Served(serve_hub::<J, R, H, K, C>(host, db, hub, out, clock, budget))
+            }
             Err(_) => HostEnd::NotReady,
         },
         Err(_) => HostEnd::NotOpened,

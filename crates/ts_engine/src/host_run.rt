@@ -12,6 +12,7 @@ use crate::host_mode::HostOptions;
 use crate::opened::open_journal;
 use std::alloc::Global;
 use ts_db::Db;
+use ts_host::{InJournal, InMemory};
 use ts_io::{Clock, Hub, Log, NoLog, Sink};
 use ts_words::{Status, Storage};
 
@@ -118,7 +119,7 @@ fn host_in_memory<H: Hub, K: Sink, C: Clock>(
 {
     let mut db = Db::new(alloc, options.limits);
     let mut log = NoLog;
-    serve_links(alloc, &mut db, options, hub, out, clock, &mut log)
+    serve_links::<H, K, C, NoLog, InMemory>(alloc, &mut db, options, hub, out, clock, &mut log)
 }
 
 // Serves on what the journal loads to.
@@ -161,7 +162,9 @@ fn host_journal<H: Hub, K: Sink, C: Clock, J: Log>(
     let mut db = Db::new(alloc, options.limits);
     let wire = options.limits.wire;
     match open_journal(alloc, &mut db, options.name, log, wire, options.budget) {
-        Ok(()) => serve_links(alloc, &mut db, options, hub, out, clock, log),
+        Ok(()) => {
+            serve_links::<H, K, C, J, InJournal>(alloc, &mut db, options, hub, out, clock, log)
+        }
         Err(end) => HostEnd::NotLoaded(end),
     }
 }

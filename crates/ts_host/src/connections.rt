@@ -71,7 +71,8 @@ impl Connections {
         requires asked { pending_items self.old.mux [] ≡ [] }
         ensures delivered { result ≡ Delivery.Delivered → (frames : List Frame) → pending_items self.new.mux frames
             ≡ pending_items self.old.mux (record { link = link; bytes = bytes.now } ∷ frames) }
-        ensures lost { result ≢ Delivery.NoMemory → (frames : List Frame) → without link (pending_items self.new.mux frames)
+        ensures lost { result ≢ Delivery.NoMemory → (frames : List Frame)
+            → without link (pending_items self.new.mux frames)
             ≡ without link (pending_items self.old.mux (record { link = link; bytes = bytes.now } ∷ frames)) }
         ensures own { without link (pending_items self.new.mux []) ≡ [] }
         ensures reached { result ≢ Delivery.NoMemory → link < reach_of self.new.mux }

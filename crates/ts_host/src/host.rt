@@ -1,8 +1,5 @@
 // A host: answers the requests of the links of a hub.
-ghost use Rattle.std.specs.Prelude.{◌≡◌, ℕ, List};
-ghost use Rattle.ts_io.specs.Gathering.{lent_to, log_of};
-ghost use Rattle.ts_io.specs.declared.hub.Step.{Step};
-ghost use Rattle.ts_db.specs.DbState.{DbState};
+ghost use Rattle.std.specs.Prelude.{◌≡◌};
 ghost use Rattle.ts_execution.specs.Limits.{CanRead};
 ghost use Rattle.ts_host.specs.Shown.{host_log, lent_by, taken_by, connections_of};
 ghost use Rattle.ts_host.specs.Beginning.{Begins};
@@ -18,7 +15,6 @@ use ts_resp::WireLimits;
 mod answering;
 mod leaving;
 pub(crate) mod receiving;
-mod settling;
 
 /// Which device failed, or that memory ran out for the number of a link.
 #[derive(Clone, Copy, Debug, PartialEq, Eq)]

@@ -3,13 +3,14 @@
 #![tactic(auto)]
 
 mod connections;
+mod handling;
 mod host;
-mod http;
 mod recorder;
 mod reply_buffer;
 mod request_counts;
 mod serving;
 
+pub use handling::{InJournal, InMemory, Recording};
 pub use host::{Host, HostFault};
 pub use reply_buffer::ReplyBuffer;
 pub use serving::{HubEnd, serve_hub};

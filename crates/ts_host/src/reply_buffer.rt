@@ -1,11 +1,12 @@
 // The buffer of one reply.
-ghost use Rattle.std.specs.Prelude.{◌≡◌, ◌+◌, ◌≤◌, length, IfOk};
+ghost use Rattle.std.specs.Prelude.{◌≡◌, ◌+◌, ◌≤◌, length};
 
+use crate::handling::Recording;
 use std::alloc::{AllocError, Global};
 use std::sync::ledger::Ledger;
 use ts_db::{Db, Hints};
-use ts_execution::{Handled, handle_recorded};
-use ts_io::Clock;
+use ts_execution::Handled;
+use ts_io::{Clock, Log};
 use ts_resp::{Out, Protocol, Reply, Word, put};
 use ts_sample::Steps;
 
@@ -20,8 +21,8 @@ impl ReplyBuffer {
     ghost use Rattle.ts_spec.specs.Run.{is_quit};
     ghost use Rattle.ts_spec.specs.Text.{protocol_error_text};
     ghost use Rattle.ts_db.specs.DbState.{Simulates};
-    ghost use Rattle.ts_execution.specs.Journaling.{Recorded};
     ghost use Rattle.ts_execution.specs.Recording.{record_bytes};
+    ghost use Rattle.ts_host.specs.Recorder.{IsHandled};
 
     /// An empty buffer.
     pub fn new(alloc: Global) -> Result<Self, AllocError> {
@@ -36,8 +37,8 @@ impl ReplyBuffer {
         self.room.bytes()
     }
 
-    /// Handles a request, leaves its reply here, and returns its record if it is a change.
-    pub(crate) fn handle<C: Clock, L: Ledger>(
+    /// Handles a request, leaves its reply here, and returns its record if it is a change that the log stores.
+    pub(crate) fn handle<J: Log, R: Recording<J>, C: Clock, L: Ledger>(
         &mut self,
         db: &mut Db,
         hints: &mut Hints,
@@ -45,14 +46,14 @@ impl ReplyBuffer {
         clock: &mut C,
         steps: &mut Steps<L>,
     ) -> Handled
-        ensures recorded { Simulates db.old db.new
-            (λ from to. Recorded words.old.items (record { held = from; readings = C.readings clock.old })
+        ensures handled { Simulates db.old db.new
+            (λ from to. IsHandled J.content words.old.items (record { held = from; readings = C.readings clock.old })
             self.new.room.bytes (record_bytes result.entry self.new.room.bytes)
             (record { held = to; readings = C.readings clock.new })) }
         ensures quits { result.quits ≡ is_quit words.old.items }
     {
         self.room.give_back();
-        handle_recorded(db, hints, words, clock, &mut self.room, steps)
+        R::handle(db, hints, words, clock, &mut self.room, steps)
     }
 
     /// Leaves the text of a protocol error here.

@@ -7,6 +7,7 @@ ghost use Rattle.ts_host.specs.Serving.{Serves, end_after};
 ghost use Rattle.ts_host.specs.Settling.{stored_by, whole_by};
 ghost use Rattle.ts_host.specs.Shown.{connections_of, host_log, lent_by, recorder_of, shown, taken_by};
 
+use crate::handling::Recording;
 use crate::host::receiving::HubStep;
 use crate::host::{Host, HostFault};
 use ts_db::Db;
@@ -24,9 +25,9 @@ pub enum HubEnd {
 }
 
 /// Answers the requests of all links over one database, in the order in which they become whole. At each pause of the
-/// hub it writes the records of the changes to the journal, and then lets the replies out. A link that ends has its line
-/// in `out`. Takes steps of the hub until they have used up the budget: one for each, and its bytes.
-pub fn serve_hub<J: Log, H: Hub, K: Sink, C: Clock>(
+/// hub it writes the records of the changes to the journal, and then lets the replies out. A link that ends has its
+/// line in `out`. Takes steps of the hub until they have used up the budget: one for each, and its bytes.
+pub fn serve_hub<J: Log, R: Recording<J>, H: Hub, K: Sink, C: Clock>(
     host: &mut Host<'_, J>,
     db: &mut Db,
     hub: &mut H,
@@ -47,7 +48,7 @@ pub fn serve_hub<J: Log, H: Hub, K: Sink, C: Clock>(
         (record { hub = H.faults hub.new; lines = K.faults out.new; journal = J.faults (host_log host.new) }) }
 {
     while host.taken() < budget {
-        match host.step(db, hub, out, clock) {
+        match host.step::<R, H, K, C>(db, hub, out, clock) {
             HubStep::Taken => {}
             HubStep::Over => return end_after(host.settle(hub), HubEnd::Ended),
             HubStep::Fault(fault) => return HubEnd::Stopped(fault),

@@ -13,7 +13,7 @@ ghost use Rattle.ts_host.specs.Shown.{connections_of, host_log, lent_by, reached
 ghost use Rattle.ts_host.specs.Shown.{taken_by, waiting, world_of};
 
 use super::{Host, HostFault, NextItem};
-use crate::http::is_http;
+use crate::handling::{Recording, is_http};
 use std::sync::ledger::{Blank, Ledger};
 use ts_db::Db;
 use ts_io::{Clock, Hub, Log, Sink};
@@ -24,7 +24,7 @@ use ts_words::LinkEnd;
 
 impl<J: Log> Host<'_, J> {
     /// Answers each request and protocol error that the bytes of this link made whole.
-    pub(super) fn answer_all<H: Hub, K: Sink, C: Clock, L: Ledger>(
+    pub(super) fn answer_all<R: Recording<J>, H: Hub, K: Sink, C: Clock, L: Ledger>(
         &mut self,
         link: u64,
         db: &mut Db,
@@ -51,7 +51,7 @@ impl<J: Log> Host<'_, J> {
     {
         let mut steps = Steps::<L>::new(blank);
         loop {
-            match self.answer_next(link, db, hub, out, clock, &mut steps) {
+            match self.answer_next::<R, H, K, C, L>(link, db, hub, out, clock, &mut steps) {
                 NextItem::Answered => {}
                 NextItem::NoneLeft => return None,
                 NextItem::Fault(fault) => return Some(fault),
@@ -60,7 +60,7 @@ impl<J: Log> Host<'_, J> {
     }
 
     // Answers the next request or protocol error. If memory for a word runs out, the link is dropped.
-    fn answer_next<H: Hub, K: Sink, C: Clock, L: Ledger>(
+    fn answer_next<R: Recording<J>, H: Hub, K: Sink, C: Clock, L: Ledger>(
         &mut self,
         link: u64,
         db: &mut Db,
@@ -87,7 +87,7 @@ impl<J: Log> Host<'_, J> {
             (record { hub = H.faults hub.new; lines = K.faults out.new; journal = J.faults (host_log self.new) }) }
     {
         match self.connections.next() {
-            Turn::Request(at, words) => match self.execute(at, words, db, clock, steps) {
+            Turn::Request(at, words) => match self.execute::<R, C, L>(at, words, db, clock, steps) {
                 Ok(closes) => self.give_reply(at, end_if(closes), hub, out),
                 Err(fault) => NextItem::Fault(fault),
             },
@@ -103,9 +103,9 @@ impl<J: Log> Host<'_, J> {
         }
     }
 
-    // Executes a request, adds its record to those that wait, and leaves its reply in the buffer. Returns whether it closes
-    // its link. An error means that the record was not added, or the request not counted.
-    fn execute<C: Clock, L: Ledger>(
+    // Executes a request, adds its record to those that wait, and leaves its reply in the buffer. Returns whether it
+    // closes its link. An error means that the record was not added, or the request not counted.
+    fn execute<R: Recording<J>, C: Clock, L: Ledger>(
         &mut self,
         at: u64,
         words: Vec<Word>,
@@ -131,7 +131,7 @@ impl<J: Log> Host<'_, J> {
         let is_http = is_http(&words);
         let handled = self
             .replies
-            .handle(db, &mut self.hints, &mut words, clock, steps);
+            .handle::<J, R, C, L>(db, &mut self.hints, &mut words, clock, steps);
         let quits = handled.quits;
         match self.recorder.add(handled.entry, self.replies.bytes()) {
             Ok(()) => {}

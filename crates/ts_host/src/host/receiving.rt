@@ -1,15 +1,17 @@
-// Takes the steps of a hub.
+// Takes the steps of a hub, and lets replies out.
 ghost use Rattle.std.specs.Prelude.{◌≡◌, ◌≢◌, ◌+◌, ◌-◌, ◌<◌, ◌≤◌, ◌^◌, suc, [], ◌∷◌, length, None, Some};
 ghost use Rattle.ts_io.specs.declared.hub.Step.TheVariants.{Comes};
 ghost use Rattle.ts_db.specs.DbState.{Simulates};
 ghost use Rattle.ts_mux.specs.Muxing.{is_inside_request, pending_items};
-ghost use Rattle.ts_host.specs.Causes.{HasCause, HasStepCause, LineCause};
+ghost use Rattle.ts_host.specs.Causes.{HasCause, HasStepCause, JournalCause, LineCause};
 ghost use Rattle.ts_host.specs.Leaving.{ClosesLink, LeavesWith, how_of};
 ghost use Rattle.ts_host.specs.Serving.{Handled, Stepped, step_after};
+ghost use Rattle.ts_host.specs.Settling.{Settles};
 ghost use Rattle.ts_host.specs.Shown.{connections_of, host_log, lent_by, recorder_of, shown, taken_by};
 
 use super::{Host, HostFault};
 use crate::connections::Delivery;
+use crate::handling::Recording;
 use std::marker::Brand;
 use std::sync::ledger::Blank;
 use ts_db::Db;
@@ -29,7 +31,7 @@ pub(crate) enum HubStep {
 
 impl<J: Log> Host<'_, J> {
     /// Takes the next step of the hub. At a pause the wake-up is settled.
-    pub(crate) fn step<H: Hub, K: Sink, C: Clock>(
+    pub(crate) fn step<R: Recording<J>, H: Hub, K: Sink, C: Clock>(
         &mut self,
         db: &mut Db,
         hub: &mut H,
@@ -52,7 +54,9 @@ impl<J: Log> Host<'_, J> {
             (record { hub = H.faults hub.new; lines = K.faults out.new; journal = J.faults (host_log self.new) }) }
     {
         match hub.next() {
-            Ok(Next::Bytes(link)) => step_after(self.receive(link, db, hub, out, clock)),
+            Ok(Next::Bytes(link)) => step_after(self.receive::<R, H, K, C>(
+                link, db, hub, out, clock,
+            )),
             Ok(Next::Closed(link, way)) => step_after(self.close_link(link, way, out)),
             Ok(Next::Pause) => {
                 self.connections.take(0);
@@ -63,8 +67,28 @@ impl<J: Log> Host<'_, J> {
         }
     }
 
+    /// Writes the records of the wake-up to the journal, and then lets its replies out. If the journal fails, nothing
+    /// is let out.
+    pub(crate) fn settle<H: Hub>(&mut self, hub: &mut H) -> Option<HostFault>
+        ensures settles { Settles result J.content (recorder_of self.old) (recorder_of self.new) (H.out hub.old)
+            (H.out hub.new) }
+        ensures connections { connections_of self.new ≡ connections_of self.old }
+        ensures lent { lent_by self.new ≡ lent_by self.old }
+        ensures coming { H.coming hub.new ≡ H.coming hub.old }
+        ensures hub_faults { H.faults hub.new ≡ H.faults hub.old }
+        ensures cause { JournalCause result (J.faults (host_log self.old)) (J.faults (host_log self.new)) }
+    {
+        match self.recorder.settle() {
+            Ok(()) => {
+                hub.let_out();
+                None
+            }
+            Err(_) => Some(HostFault::Journal),
+        }
+    }
+
     // Delivers the bytes at hand, and answers what they make whole. If memory for them runs out, the link is dropped.
-    fn receive<H: Hub, K: Sink, C: Clock>(
+    fn receive<R: Recording<J>, H: Hub, K: Sink, C: Clock>(
         &mut self,
         link: u64,
         db: &mut Db,
@@ -90,7 +114,7 @@ impl<J: Log> Host<'_, J> {
     {
         match self.connections.deliver(link, hub.bytes()) {
             Delivery::Delivered => {
-                self.answer_all::<H, K, C, Brand>(link, db, hub, out, clock, Blank::new(1))
+                self.answer_all::<R, H, K, C, Brand>(link, db, hub, out, clock, Blank::new(1))
             }
             Delivery::Lost => self.drop_link(link, LinkEnd::Memory, hub, out),
             Delivery::NoMemory => Some(HostFault::Memory),
