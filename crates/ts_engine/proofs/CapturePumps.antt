@@ -2,13 +2,13 @@
 use Rattle.std.specs.Prelude.{true, Option, Some, None}
 use Rattle.std.specs.Io.KnownBytes.{Consumes, Keeps, IsAtEnd}
 use Rattle.std.proofs.KnownBytes.{Consumes-nil, Consumes-trans, Consumes-kept}
-use Rattle.std.proofs.Common.{◌≡◌, ◌<◌, ℕ, ◌+◌, ◌≤◌, List, [], ◌++◌, length, take, refl, sym, ◌∙◌, ap, subst, arith, length-append}
+use Rattle.std.proofs.Common.{◌≡◌, ◌<◌, ℕ, ◌+◌, ◌≤◌, List, [], ◌++◌, length, take, refl, sym, ◌∙◌, ap, subst, arith, length-append, append-nil}
 use Rattle.ts_spec.specs.Run.{is_quit}
 use Rattle.ts_spec.specs.declared.wire.WireLimits.{WireLimits}
 use Rattle.ts_db.specs.DbState.{DbState}
-use Rattle.ts_mux.specs.Capture.{Capture, capture, frames_of, ending_of}
+use Rattle.ts_mux.specs.Capture.{Capture, capture, frames_of, ending_of, start}
 use Rattle.ts_mux.specs.Framing.{unfinished, ended_at}
-use Rattle.ts_mux.specs.Order.{closing}
+use Rattle.ts_mux.specs.Order.{Item, order, closing}
 use Rattle.ts_execution.specs.Handling.{World}
 use Rattle.ts_engine.specs.declared.capture_session.CaptureGo.{CaptureGo}
 use Rattle.ts_engine.specs.declared.capture_session.CaptureGo.TheVariants as capture_go
@@ -16,9 +16,12 @@ use Rattle.ts_engine.specs.declared.capture_session.CaptureSession.{CaptureSessi
 use Rattle.ts_engine.specs.declared.capture_run.CaptureEnd.{CaptureEnd}
 use Rattle.ts_engine.specs.declared.capture_run.CaptureEnd.TheVariants as end
 use Rattle.ts_engine.specs.declared.capture_run.CaptureRead.{CaptureRead}
-use Rattle.ts_engine.specs.CaptureSteps.{Progress, beginning, HandledAll, HandledAs, IsAt, IsUpToDate, Ends, EndsOr, has_ended, Pumped, CaptureRun, HasCauses, end_at, end_by}
+use Rattle.ts_engine.specs.CaptureSteps.{Progress, beginning, HandledAll, HandledAs, IsAt, IsUpToDate, Ends, EndsOr, done_of, has_ended, Pumped, CaptureRun, HasCauses, end_at, end_by}
+use Rattle.ts_engine.specs.Captured.{IsNear, items, ending}
+use Rattle.ts_engine.specs.Piping.{PIECE}
 use Rattle.ts_engine.specs.CaptureView.{coming, capture_progress, HasAnswered, Begins}
-use Rattle.ts_engine.proofs.CapturesOn.{went_none, not_answered, went_on, answers_on}
+use Rattle.ts_mux.proofs.CaptureLemmas.{read_on-nil}
+use Rattle.ts_engine.proofs.CapturesOn.{went_none, not_answered, went_on, some_on, last_on, answers_on}
 use Rattle.ts_engine.proofs.CaptureItems.{no_frames, its_own_ending}
 
 -- this many bytes were read, and their frames answered
@@ -85,6 +88,32 @@ ends_on end.WriteFault first mid last had has' has x y rest went ends = answers_
 ends_on end.Memory first mid last had has' has x y rest went ends = answers_on first mid had has' x went capture_go.Memory last has y ends
 ends_on end.Budget first mid last had has' has x y rest went ends = (went_on first mid had has' x went last has y ends.0, ends.1)
 
+-- the items of the pieces before the last one were answered before it was read
+near_by : (first mid : Progress) (had has' : List ℕ → Type 0) (bytes x y : List ℕ) → bytes ≡ x ++ y → (went : HandledAll first mid had has' x) → IsUpToDate mid → length y ≤ PIECE
+    → (done others : List Item) → done ≡ went.done ++ others → IsNear first.items first.ending bytes done
+near_by first mid had has' bytes x y split went current short done others is = record {
+  before = x;
+  piece = y;
+  pieces = split;
+  short = short;
+  place = current.0;
+  unbroken = ap first.ending (sym (append-nil x)) ∙ went.ending [] ∙ current.1.is;
+  others = others;
+  answered = is ∙ ap (λ (l : List Item). l ++ others)
+      (sym (ap first.items (sym (append-nil x)) ∙ went.items [] ∙ ap (λ (l : List Item). went.done ++ l) current.1.items ∙ append-nil went.done));
+}
+
+near_on : (e : CaptureEnd) (first mid last : Progress) (had has' has : List ℕ → Type 0) (x y : List ℕ) (rest : Option (List ℕ)) (went : HandledAll first mid had has' x) (ends : Ends e rest mid last has' has y)
+    → IsUpToDate mid → length y ≤ PIECE → IsNear first.items first.ending (x ++ y) (done_of e rest first last had has (x ++ y) (ends_on e first mid last had has' has x y rest went ends))
+unfolding ends_on went_on answers_on last_on some_on
+near_on end.Ended first mid last had has' has x y rest went ends current short = near_by first mid had has' (x ++ y) x y refl went current short _ ends.0.done refl
+near_on (end.Truncated place) first mid last had has' has x y rest went ends current short = near_by first mid had has' (x ++ y) x y refl went current short _ ends.0.done refl
+near_on (end.Broken place) first mid last had has' has x y rest went ends current short = near_by first mid had has' (x ++ y) x y refl went current short _ ends.0.done refl
+near_on end.ReadFault first mid last had has' has x y rest went ends current short = near_by first mid had has' (x ++ y) x y refl went current short _ ends.0.done refl
+near_on end.WriteFault first mid last had has' has x y rest went ends current short = near_by first mid had has' (x ++ y) x y refl went current short _ ends.done refl
+near_on end.Memory first mid last had has' has x y rest went ends current short = near_by first mid had has' (x ++ y) x y refl went current short _ ends.done refl
+near_on end.Budget first mid last had has' has x y rest went ends current short = near_by first mid had has' (x ++ y) x y refl went current short _ ends.0.done refl
+
 module _ (limits : WireLimits) (taken : ℕ) (from : World) (mid : Progress) (left between : Option (List ℕ)) (had has' : List ℕ → Type 0)
     (so_far : SoFar limits taken from mid left between had has') where
   -- one more piece was answered
@@ -101,9 +130,9 @@ module _ (limits : WireLimits) (taken : ℕ) (from : World) (mid : Progress) (le
 
   -- the last piece was answered
   replayed_last : (budget count : ℕ) (e : CaptureEnd) (now : Progress) (rest : Option (List ℕ)) (has : List ℕ → Type 0)
-      → taken < budget → taken + count ≤ budget → (e ≡ end.Budget → ⊥)
+      → taken < budget → taken + count ≤ budget → (e ≡ end.Budget → ⊥) → IsUpToDate mid → count ≤ PIECE
       → Pumped (record { taken = count; end = Some e }) between rest mid now has' has → CaptureRun limits budget e from now.world left rest had has
-  replayed_last budget count e now rest has less within unspent pumped = record {
+  replayed_last budget count e now rest has less within unspent current short pumped = record {
     bytes = so_far.bytes ++ pumped.bytes;
     last = now;
     within = omega (arith, so_far.count, pumped.count, length-append so_far.bytes pumped.bytes, within);
@@ -114,13 +143,14 @@ module _ (limits : WireLimits) (taken : ℕ) (from : World) (mid : Progress) (le
     took = Consumes-trans left between rest so_far.bytes pumped.bytes so_far.took pumped.took;
     world = refl;
     ends = ends_on e (beginning limits from) mid now had has' has so_far.bytes pumped.bytes rest so_far.went pumped.ends;
+    near = near_on e (beginning limits from) mid now had has' has so_far.bytes pumped.bytes rest so_far.went pumped.ends current (omega (arith, pumped.count, short));
   }
 
   pub replayed_end : (budget : ℕ) (read : CaptureRead) (e : CaptureEnd) (now : Progress) (rest : Option (List ℕ)) (has : List ℕ → Type 0)
-      → taken < budget → taken + read.taken ≤ budget → read.end ≡ Some e → (read.end ≡ Some end.Budget → ⊥)
+      → taken < budget → taken + read.taken ≤ budget → read.end ≡ Some e → (read.end ≡ Some end.Budget → ⊥) → IsUpToDate mid → read.taken ≤ PIECE
       → Pumped read between rest mid now has' has → CaptureRun limits budget e from now.world left rest had has
-  replayed_end budget read e now rest has less within is unspent pumped =
-      replayed_last budget read.taken e now rest has less within (λ same. unspent (is ∙ ap Some same))
+  replayed_end budget read e now rest has less within is unspent current short pumped =
+      replayed_last budget read.taken e now rest has less within (λ same. unspent (is ∙ ap Some same)) current short
       (subst (λ (o : Option CaptureEnd). Pumped (record { taken = read.taken; end = o }) between rest mid now has' has) is pumped)
 
   -- the budget is used up
@@ -134,10 +164,25 @@ module _ (limits : WireLimits) (taken : ℕ) (from : World) (mid : Progress) (le
     took = so_far.took;
     world = refl;
     ends = (so_far.went, current);
+    near = near_by (beginning limits from) mid had has' so_far.bytes so_far.bytes [] (sym (append-nil so_far.bytes)) so_far.went current (omega arith) so_far.went.done [] (sym (append-nil so_far.went.done));
   }
+
+-- no byte was read
+no_bytes : (limits : WireLimits) → IsNear (items limits) ending [] []
+no_bytes limits = record {
+  before = [];
+  piece = [];
+  pieces = refl;
+  short = omega arith;
+  place = None;
+  unbroken = ap ending_of (read_on-nil 0 0 start);
+  others = [];
+  answered = ap (λ (c : Capture). order limits (frames_of c) ++ []) (sym (read_on-nil 0 0 start));
+}
 
 -- out of memory for the session
 pub replayed_none : (limits : WireLimits) (budget : ℕ) (from : World) (left : Option (List ℕ)) (has : List ℕ → Type 0) → CaptureRun limits budget end.Memory from from left left has has
+unfolding not_answered
 replayed_none limits budget from left has = record {
   bytes = [];
   last = beginning limits from;
@@ -147,6 +192,7 @@ replayed_none limits budget from left has = record {
   took = Consumes-nil left;
   world = refl;
   ends = not_answered (beginning limits from) (beginning limits from) has [] refl;
+  near = no_bytes limits;
 }
 
 -- how the input continues or ends, by the session's result

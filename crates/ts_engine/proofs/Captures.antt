@@ -16,9 +16,9 @@ use Rattle.ts_words.specs.declared.status.Status.TheVariants as status
 use Rattle.ts_execution.specs.Handling.{World, plain}
 use Rattle.ts_engine.specs.declared.capture_run.CaptureEnd.{CaptureEnd}
 use Rattle.ts_engine.specs.declared.capture_run.CaptureEnd.TheVariants as end
-use Rattle.ts_engine.specs.Captured.{items, ending, SomeReplied, FrameCut, EndReplied, Writes, Captured, status_of, place_of, status_by, status_captured}
+use Rattle.ts_engine.specs.Captured.{items, ending, SomeReplied, FrameCut, EndReplied, Writes, IsNear, ReadBound, Captured, status_of, place_of, status_by, status_captured}
 use Rattle.ts_engine.specs.Headline.{Exchange, RunView, exchange_of}
-use Rattle.ts_engine.specs.CaptureSteps.{Progress, beginning, HandledAll, HandledSome, LastFrame, IsUpToDate, Ends, is_of_input, CaptureRun, HasCauses}
+use Rattle.ts_engine.specs.CaptureSteps.{Progress, beginning, HandledAll, HandledSome, LastFrame, IsUpToDate, Ends, done_of, is_of_input, CaptureRun, HasCauses}
 use Rattle.ts_engine.specs.Replies.{IsReply, Replies}
 use Rattle.ts_engine.specs.Top.{ReportsIn}
 use Rattle.ts_engine.proofs.Headlines.{Splits, splits}
@@ -94,6 +94,18 @@ module _ (exchange : Exchange plain) (last : Progress) (at : last.world ≡ exch
     writes end.Memory ends = some_replied ends
     writes end.WriteFault ends = frame_cut ends
 
+    read_bound : (e : CaptureEnd) (ends : Ends e left (beginning exchange.limits exchange.from) last exchange.had exchange.has front)
+        → IsNear (items exchange.limits) ending front (done_of e left (beginning exchange.limits exchange.from) last exchange.had exchange.has front ends) → ReadBound exchange bytes front e (writes e ends)
+    unfolding writes some_replied frame_cut
+    read_bound end.Ended ends near = tt
+    read_bound (end.Truncated place) ends near = tt
+    read_bound (end.Broken place) ends near =
+        subst (λ (l : List Item). IsNear (items exchange.limits) ending front l) (sym (ap (items exchange.limits) split.1 ∙ ends.0.items split.0 ∙ ap (λ (l : List Item). ends.0.done ++ l) (ends.1.items split.0) ∙ append-nil ends.0.done)) near
+    read_bound end.ReadFault ends near = tt
+    read_bound end.Budget ends near = tt
+    read_bound end.Memory ends near = near
+    read_bound end.WriteFault ends near = near
+
 -- a run from the empty database, on an input whose bytes are known
 module _ (seen : RunView) (held : DbState) (budget : ℕ) (e : CaptureEnd) (bytes : List ℕ) (left : Option (List ℕ)) where
   captured_of : CaptureRun seen.limits.wire budget e (exchange_of seen held).from (exchange_of seen held).to (Some bytes) left seen.had seen.has
@@ -111,6 +123,7 @@ module _ (seen : RunView) (held : DbState) (budget : ℕ) (e : CaptureEnd) (byte
         within = capture_ran.within;
         spent = capture_ran.spent;
         written = writes (exchange_of seen held) capture_ran.last capture_ran.world bytes capture_ran.bytes left split e capture_ran.ends;
+        read_bound = read_bound (exchange_of seen held) capture_ran.last capture_ran.world bytes capture_ran.bytes left split e capture_ran.ends capture_ran.near;
         reported = reported;
         quiet = quiet;
       }

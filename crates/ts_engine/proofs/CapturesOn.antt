@@ -26,7 +26,7 @@ went_none old new has bytes items ending world = record {
 }
 
 -- the rest may be unknown
-pub not_answered : (old new : Progress) (has : List ℕ → Type 0) (bytes : List ℕ) → new.world ≡ old.world → HandledSome old new has has bytes
+unfoldable pub not_answered : (old new : Progress) (has : List ℕ → Type 0) (bytes : List ℕ) → new.world ≡ old.world → HandledSome old new has has bytes
 not_answered old new has bytes world = record {
   done = [];
   frames = [];
@@ -49,23 +49,23 @@ went_one old new had has item text items ending reply grown = record {
 }
 
 module _ (first mid : Progress) (had has' : List ℕ → Type 0) (x : List ℕ) (before : HandledAll first mid had has' x) where
-  items_on : (y more : List ℕ) (done rest : List Item) → mid.items (y ++ more) ≡ done ++ rest → first.items ((x ++ y) ++ more) ≡ (before.done ++ done) ++ rest
+  pub items_on : (y more : List ℕ) (done rest : List Item) → mid.items (y ++ more) ≡ done ++ rest → first.items ((x ++ y) ++ more) ≡ (before.done ++ done) ++ rest
   items_on y more done rest after =
       ap first.items (append_assoc x y more) ∙ before.items (y ++ more) ∙ ap (λ (l : List Item). before.done ++ l) after ∙ sym (append_assoc before.done done rest)
 
-  grew : (has : List ℕ → Type 0) (frames : List Frame) → Grows has' has (all_framed frames) → Grows had has (all_framed (before.frames ++ frames))
+  pub grew : (has : List ℕ → Type 0) (frames : List Frame) → Grows has' has (all_framed frames) → Grows had has (all_framed (before.frames ++ frames))
   grew has frames grown =
       subst (λ (l : List ℕ). Grows had has l) (sym (all_framed-append before.frames frames))
       (grows_twice had has' has (all_framed before.frames) (all_framed frames) before.grown grown)
 
-  grew_tail : (has : List ℕ → Type 0) (frames : List Frame) (tail : List ℕ) → Grows has' has (all_framed frames ++ tail) → Grows had has (all_framed (before.frames ++ frames) ++ tail)
+  pub grew_tail : (has : List ℕ → Type 0) (frames : List Frame) (tail : List ℕ) → Grows has' has (all_framed frames ++ tail) → Grows had has (all_framed (before.frames ++ frames) ++ tail)
   grew_tail has frames tail grown =
       subst (λ (l : List ℕ). Grows had has l)
       (sym (ap (λ (l : List ℕ). l ++ tail) (all_framed-append before.frames frames) ∙ append_assoc (all_framed before.frames) (all_framed frames) tail))
       (grows_twice had has' has (all_framed before.frames) (all_framed frames ++ tail) before.grown grown)
 
   -- two parts make one
-  pub went_on : (last : Progress) (has : List ℕ → Type 0) (y : List ℕ) → HandledAll mid last has' has y → HandledAll first last had has (x ++ y)
+  unfoldable pub went_on : (last : Progress) (has : List ℕ → Type 0) (y : List ℕ) → HandledAll mid last has' has y → HandledAll first last had has (x ++ y)
   went_on last has y after = record {
     done = before.done ++ after.done;
     frames = before.frames ++ after.frames;
@@ -75,7 +75,7 @@ module _ (first mid : Progress) (had has' : List ℕ → Type 0) (x : List ℕ) 
     grown = grew has after.frames after.grown;
   }
 
-  some_on : (last : Progress) (has : List ℕ → Type 0) (y : List ℕ) → HandledSome mid last has' has y → HandledSome first last had has (x ++ y)
+  unfoldable pub some_on : (last : Progress) (has : List ℕ → Type 0) (y : List ℕ) → HandledSome mid last has' has y → HandledSome first last had has (x ++ y)
   some_on last has y after = record {
     done = before.done ++ after.done;
     frames = before.frames ++ after.frames;
@@ -84,7 +84,7 @@ module _ (first mid : Progress) (had has' : List ℕ → Type 0) (x : List ℕ) 
     grown = grew has after.frames after.grown;
   }
 
-  last_on : (last : Progress) (has : List ℕ → Type 0) (y : List ℕ) → LastFrame mid last has' has y → LastFrame first last had has (x ++ y)
+  unfoldable pub last_on : (last : Progress) (has : List ℕ → Type 0) (y : List ℕ) → LastFrame mid last has' has y → LastFrame first last had has (x ++ y)
   last_on last has y cut = record {
     done = before.done ++ cut.done;
     frames = before.frames ++ cut.frames;
@@ -99,7 +99,7 @@ module _ (first mid : Progress) (had has' : List ℕ → Type 0) (x : List ℕ) 
   }
 
   -- a result after a part is a result after both
-  pub answers_on : (answer : CaptureGo) (last : Progress) (has : List ℕ → Type 0) (y : List ℕ) → HandledAs answer mid last has' has y → HandledAs answer first last had has (x ++ y)
+  unfoldable pub answers_on : (answer : CaptureGo) (last : Progress) (has : List ℕ → Type 0) (y : List ℕ) → HandledAs answer mid last has' has y → HandledAs answer first last had has (x ++ y)
   answers_on capture_go.More last has y after = went_on last has y after
   answers_on (capture_go.Broken place) last has y after = (went_on last has y after.0, after.1)
   answers_on capture_go.WriteFault last has y after = last_on last has y after

@@ -1,6 +1,6 @@
 -- From what a host did to what a run in the mode `host` did.
 use Rattle.std.specs.Prelude.{Option}
-use Rattle.std.proofs.Common.{◌≡◌, ◌+◌, ℕ, false, List, [], ◌++◌, take, refl, sym, ◌∙◌, ap, subst, append-nil}
+use Rattle.std.proofs.Common.{◌≡◌, ℕ, false, List, [], ◌++◌, take, refl, sym, ◌∙◌, ap, subst, append-nil}
 use Rattle.ts_io.specs.Hubs.{Outgoing, Same}
 use Rattle.ts_io.specs.Sinks.{Grows}
 use Rattle.ts_io.specs.declared.hub.Step.{Step}

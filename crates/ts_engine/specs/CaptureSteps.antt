@@ -126,6 +126,16 @@ abbrev pub EndsOr : Option CaptureEnd → Option (List ℕ) → Progress → Pro
 EndsOr None left old new had has bytes = HandledAll old new had has bytes
 EndsOr (Some e) left old new had has bytes = Ends e left old new had has bytes
 
+-- the items that were answered
+abbrev pub done_of : (e : CaptureEnd) (left : Option (List ℕ)) (old new : Progress) (had has : List ℕ → Type 0) (bytes : List ℕ) → Ends e left old new had has bytes → List Item
+done_of end.Ended left old new had has bytes ends = ends.0.done
+done_of (end.Truncated place) left old new had has bytes ends = ends.0.done
+done_of (end.Broken place) left old new had has bytes ends = ends.0.done
+done_of end.ReadFault left old new had has bytes ends = ends.0.done
+done_of end.WriteFault left old new had has bytes ends = ends.done
+done_of end.Memory left old new had has bytes ends = ends.done
+done_of end.Budget left old new had has bytes ends = ends.0.done
+
 -- whether this end is the end of the input
 abbrev pub is_of_input : CaptureEnd → Bool
 is_of_input end.Ended = true
@@ -159,6 +169,7 @@ pub record CaptureRun (limits : WireLimits) (budget : ℕ) (e : CaptureEnd) (fro
   pub took : Consumes left rest bytes
   pub world : last.world ≡ to
   pub ends : Ends e rest (beginning limits from) last had has bytes
+  pub near : captured.IsNear (captured.items limits) captured.ending bytes (done_of e rest (beginning limits from) last had has bytes ends)
 
 -- fault counters never fall; an end is a fault if and only if its counter rose
 pub record HasCauses (e : CaptureEnd) (reads reads' writes writes' : ℕ) : Type 0 where

@@ -1,5 +1,5 @@
 -- What is written for a capture, by how it ended.
-use Rattle.std.specs.Prelude.{◌≡◌, Bool, true, false, ℕ, ◌≤◌, nat_le, List, [], ◌∷◌, ◌++◌, length, take, map, codes, Option, Some, String}
+use Rattle.std.specs.Prelude.{⊤, ◌≡◌, Bool, true, false, ℕ, ◌≤◌, nat_le, List, [], ◌∷◌, ◌++◌, length, take, map, codes, Option, Some, String}
 use Rattle.std.specs.String.{string_bytes}
 use Rattle.std.specs.declared.alloc.Global.{Global}
 use Rattle.ts_io.specs.Sinks.{Grows}
@@ -17,6 +17,7 @@ use Rattle.ts_execution.specs.Handling.{World, plain}
 use Rattle.ts_engine.specs.declared.capture_run.CaptureEnd.{CaptureEnd}
 use Rattle.ts_engine.specs.declared.capture_run.CaptureEnd.TheVariants as end
 use Rattle.ts_engine.specs.Headline.{Exchange, RunView, exchange_of}
+use Rattle.ts_engine.specs.Piping.{PIECE}
 use Rattle.ts_engine.specs.Replies.{Replies, IsReply, reply_frame}
 use Rattle.ts_engine.specs.Top.{ReportsIn}
 
@@ -77,6 +78,28 @@ module _ (exchange : Exchange plain) where
   Writes bytes front end.Memory = SomeReplied bytes
   Writes bytes front end.WriteFault = FrameCut bytes
 
+-- The prefix of a capture that was read, and the items that were answered. Before its last piece was read, every item of
+-- the pieces before had been answered, and these pieces showed no error.
+pub record IsNear (items : List ℕ → List Item) (ending : List ℕ → Capture) (front : List ℕ) (done : List Item) : Type 0 where
+  pub before : List ℕ
+  pub piece : List ℕ
+  pub pieces : front ≡ before ++ piece
+  pub short : length piece ≤ PIECE
+  pub place : Option ℕ
+  pub unbroken : ending before ≡ ended_at place
+  pub others : List Item
+  pub answered : done ≡ items before ++ others
+
+-- at most one piece was read past an end that the capture shows, or past the last frame that was answered
+abbrev pub ReadBound : (exchange : Exchange plain) (bytes front : List ℕ) (e : CaptureEnd) → Writes exchange bytes front e → Type 0
+ReadBound exchange bytes front end.Ended written = ⊤
+ReadBound exchange bytes front (end.Truncated place) written = ⊤
+ReadBound exchange bytes front (end.Broken place) written = IsNear (items exchange.limits) ending front (items exchange.limits bytes)
+ReadBound exchange bytes front end.ReadFault written = ⊤
+ReadBound exchange bytes front end.Budget written = ⊤
+ReadBound exchange bytes front end.Memory written = IsNear (items exchange.limits) ending front written.done
+ReadBound exchange bytes front end.WriteFault written = IsNear (items exchange.limits) ending front written.done
+
 -- the status of an end
 abbrev pub status_of : CaptureEnd → Status
 status_of end.Ended = status.Ended
@@ -109,6 +132,7 @@ pub record Captured (seen : RunView) (budget : ℕ) (bytes : List ℕ) (left : O
   pub within : length front ≤ budget
   pub spent : ended ≡ end.Budget → length front ≡ budget
   pub written : Writes (exchange_of seen held) bytes front ended
+  pub read_bound : ReadBound (exchange_of seen held) bytes front ended written
   pub reported : ReportsIn (Some mode.Mux) (status_of ended) (place_of ended) given had has
   pub quiet : ended ≡ end.Ended → given ≡ status.Ended
 

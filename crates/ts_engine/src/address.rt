@@ -40,13 +40,14 @@ pub(crate) fn serve_address<N: Listener, K: Sink, E: Sink, C: Clock>(
     ensures served { Connections
         (record { left = N.In.left; reads = N.In.faults; has = N.Out.has; writes = N.Out.faults })
         (run_view C.readings K.has options.now.limits clock.old clock.new out.old out.new)
-        options.now.budget options.now.links (N.coming net.old) (N.coming net.new) (N.closed net.old) (N.closed net.new) (E.has err.old)
-        (E.has err.new) result }
+        options.now.budget options.now.links (N.coming net.old) (N.coming net.new) (N.closed net.old)
+        (N.closed net.new) (E.has err.old) (E.has err.new) result }
     ensures complete { (Rose (N.faults net.old) (N.faults net.new) → ⊥)
         → (Rose (K.faults out.old) (K.faults out.new) → ⊥)
         → AllServed (record { left = N.In.left; reads = N.In.faults; has = N.Out.has; writes = N.Out.faults })
         (run_view C.readings K.has options.now.limits clock.old clock.new out.old out.new)
-        options.now.budget options.now.links (N.coming net.old) (N.coming net.new) (N.closed net.old) (N.closed net.new) result }
+        options.now.budget options.now.links (N.coming net.old) (N.coming net.new) (N.closed net.old)
+        (N.closed net.new) result }
     ensures net { N.has_open_link net.new ≡ false }
     ensures statuses { (result ≡ Status.Ended) ⊎ (result ≡ Status.AcceptFault) ⊎ (result ≡ Status.WriteFault) }
     ensures accept_fault { result ≡ Status.AcceptFault → Rose (N.faults net.old) (N.faults net.new) }

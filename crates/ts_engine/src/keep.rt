@@ -101,10 +101,10 @@ fn keep<S: Source, K: Sink, C: Clock, J: Log>(
     ensures complete { (journal bytes : List ℕ) → J.content log.old ≡ Some journal → S.left input.old ≡ Some bytes
         → (Rose (S.faults input.old) (S.faults input.new) → ⊥) → (Rose (K.faults out.old) (K.faults out.new) → ⊥)
         → (Rose (J.faults log.old) (J.faults log.new) → ⊥)
-        → IsOutOfMemoryOr (journaled.status_of result) (status_journaled options.now.limits options.now.budget journal bytes) }
-    ensures causes { HasJournalCauses (journaled.status_of result) (S.faults input.old) (S.faults input.new) (K.faults out.old)
-        (K.faults out.new)
-        (J.faults log.old) (J.faults log.new) }
+        → IsOutOfMemoryOr (journaled.status_of result)
+        (status_journaled options.now.limits options.now.budget journal bytes) }
+    ensures causes { HasJournalCauses (journaled.status_of result) (S.faults input.old) (S.faults input.new)
+        (K.faults out.old) (K.faults out.new) (J.faults log.old) (J.faults log.new) }
 {
     let mut db = Db::new(alloc, options.limits);
     let wire = options.limits.wire;
@@ -118,8 +118,8 @@ fn keep<S: Source, K: Sink, C: Clock, J: Log>(
     }
 }
 
-// Answers the input on the loaded database. Appends the record of each change to the journal before it writes the reply.
-// If the journal fails, it writes nothing of that reply, and the input ends.
+// Answers the input on the loaded database. Appends the record of each change to the journal before it writes the
+// reply. If the journal fails, it writes nothing of that reply, and the input ends.
 fn answer_input<S: Source, K: Sink, C: Clock, J: Log>(
     alloc: Global,
     db: &mut Db,
@@ -143,9 +143,8 @@ fn answer_input<S: Source, K: Sink, C: Clock, J: Log>(
         limits.wire limits.budget bytes (S.left input.new)
         (S.faults input.old) (S.faults input.new) (K.faults out.old) (K.faults out.new) (J.faults log.old)
         (J.faults log.new)) }
-    ensures causes { HasJournalCauses (journaled.status_of result) (S.faults input.old) (S.faults input.new) (K.faults out.old)
-        (K.faults out.new)
-        (J.faults log.old) (J.faults log.new) }
+    ensures causes { HasJournalCauses (journaled.status_of result) (S.faults input.old) (S.faults input.new)
+        (K.faults out.old) (K.faults out.new) (J.faults log.old) (J.faults log.new) }
 {
     let mut handler = journaling::Journaled { log, failed: false };
     let outcome = pipe_with(alloc, &mut handler, db, input, out, clock, limits);

@@ -40,9 +40,9 @@ pub fn usual_budget() -> u64
 /// - `gen SEED N` runs the workload of this seed with N changes, and writes its summary to `out`.
 /// - `keep FILE` loads the journal FILE through `log`, answers `input` like `pipe`, and appends the record of each
 ///   change to the journal before it writes the reply.
-/// - `host ADDRESS [FILE [sync]]` serves any number of links of `hub` at once, with the journal FILE or in memory alone.
-///   It writes `ready ADDRESS` to `out` as soon as links are accepted, and a line for each link that ends. The records of
-///   a wake-up are in the journal, with `sync` also on disk, before its replies leave.
+/// - `host ADDRESS [FILE [sync]]` serves any number of links of `hub` at once, with the journal FILE or in memory
+///   alone. It writes `ready ADDRESS` to `out` as soon as links are accepted, and a line for each link that ends. The
+///   records of a wake-up are in the journal, with `sync` also on disk, before its replies leave.
 /// - `mux` answers the interleaved connections of the capture in `input`, and writes each reply as a frame to `out`.
 ///
 /// Reads at most `budget` bytes of the input, of each connection and of the journal. Any status other than `Ended`
@@ -179,9 +179,9 @@ pub fn top<S: Source, K: Sink, E: Sink, C: Clock, N: Listener, J: Log, H: Hub>(
 
     // If no device fails and the steps that come do not use up the budget, the status is that of the journal, or out of
     // memory.
-    ensures host_complete { (storage : Storage) → asked words.now ≡ Some (Mode.Host storage) → has_journal storage ≡ true
-        → (journal : List ℕ) (steps : List Step) → J.content log.old ≡ Some journal → H.coming hub.old ≡ Some steps
-        → weight steps < budget
+    ensures host_complete { (storage : Storage) → asked words.now ≡ Some (Mode.Host storage)
+        → has_journal storage ≡ true → (journal : List ℕ) (steps : List Step) → J.content log.old ≡ Some journal
+        → H.coming hub.old ≡ Some steps → weight steps < budget
         → NoHostFault
         (record { hub = H.faults hub.old; lines = K.faults out.old; journal = J.faults log.old })
         (record { hub = H.faults hub.new; lines = K.faults out.new; journal = J.faults log.new })

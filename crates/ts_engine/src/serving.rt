@@ -83,8 +83,8 @@ fn serve_link<N: Listener, K: Sink, C: Clock>(
     requires budget { 1 ≤ limits.budget }
     requires net { N.has_open_link net.old ≡ false }
     ensures serves { Simulates db.old db.new (λ from to. Serves
-        (record { left = N.In.left; reads = N.In.faults; has = N.Out.has; writes = N.Out.faults }) limits.wire limits.budget
-        result number 1
+        (record { left = N.In.left; reads = N.In.faults; has = N.Out.has; writes = N.Out.faults }) limits.wire
+        limits.budget result number 1
         (record { held = from; readings = C.readings clock.old })
         (record { held = to; readings = C.readings clock.new })
         (N.coming net.old) (N.coming net.new) (N.closed net.old) (N.closed net.new) (K.has out.old) (K.has out.new)) }

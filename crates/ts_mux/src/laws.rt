@@ -15,8 +15,8 @@ pub fn written_frames_read_back()
     ensures ending { (frames : List Frame) → All IsFrame frames → ending_of (capture (all_framed frames)) ≡ Ended }
 {}
 
-/// Law: the items of a connection are those of its own stream: its requests up to and including the first that closes it,
-/// or up to a protocol error that comes before.
+/// Law: the items of a connection are those of its own stream: its requests up to and including the first that closes
+/// it, or up to a protocol error that comes before.
 pub fn each_connection_has_its_own_requests(limits: WireLimits)
     ensures { (closes : Request → Bool) (link : ℕ) (frames : List Frame) → items_at link (order_by closes limits frames)
         ≡ items_of link (up_to_close closes (events_of (stream_at limits 0 (stream link frames)))) }

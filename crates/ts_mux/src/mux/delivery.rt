@@ -15,8 +15,8 @@ use std::mem;
 use ts_resp::Reader;
 
 impl Mux {
-    /// Delivers a frame whose bytes stand elsewhere. On an error nothing was delivered; if the connection is closed then,
-    /// the others yield what they would have yielded.
+    /// Delivers a frame whose bytes stand elsewhere. On an error nothing was delivered; if the connection is closed
+    /// then, the others yield what they would have yielded.
     pub fn deliver_bytes(&mut self, link: u64, bytes: &[u8]) -> Result<(), AllocError>
         requires asked { pending_items self.old [] ≡ [] }
         requires bound { delivered_to self.old + length bytes.now < 2 ^ 64 }
@@ -44,8 +44,8 @@ impl Mux {
         Ok(())
     }
 
-    /// Allocates what it takes to close this connection and all with lower numbers. Meant for numbers that are given out
-    /// in order.
+    /// Allocates what it takes to close this connection and all with lower numbers. Meant for numbers that are given
+    /// out in order.
     pub fn reach(&mut self, link: u64) -> Result<(), AllocError>
         ensures reached { OnOk result (link < reach_of self.new) }
         ensures longer { reach_of self.old ≤ reach_of self.new }
@@ -126,8 +126,8 @@ impl Mux {
     // Returns the connection's reader and leaves a fresh one in the map; a new connection gets a fresh one.
     fn load_reader(&mut self, link: u64) -> Reader
         requires current_connection { self.old.current_connection ≡ None }
-        ensures same { (frames : List Frame) → pending_items_of self.new.limits (is_closed self.new.closed) self.new.readers
-            (Some (record { link = link; reader = result })) frames ≡ pending_items self.old frames }
+        ensures same { (frames : List Frame) → pending_items_of self.new.limits (is_closed self.new.closed)
+            self.new.readers (Some (record { link = link; reader = result })) frames ≡ pending_items self.old frames }
         ensures fed { fed result ≤ delivered_to self.new }
         ensures current_connection { self.new.current_connection ≡ None }
         ensures closed { self.new.closed ≡ self.old.closed }

@@ -33,7 +33,8 @@ loop-taken-preserved g c =
 pub returns-in-Some-clause-capture_ran : goal.returns-in-Some-clause-capture_ran
 returns-in-Some-clause-capture_ran g c =
     carries_then _ _ _ _ _ _ (λ from between to so pumped.
-    replayed_end _ _ _ _ _ _ _ _ so c.args.budget c.pump-read.result c.in-Some.end _ _ _ (search rules) (search rules) c.in-Some.is c.pump-read.ensures.unspent pumped)
+    replayed_end _ _ _ _ _ _ _ _ so c.args.budget c.pump-read.result c.in-Some.end _ _ _ (search rules) (search rules) c.in-Some.is c.pump-read.ensures.unspent
+    (is_up_to_date c.loop-taken.capture_session between (g.C.Clock.readings c.loop-taken.clock) c.loop-taken.invariant.answered) (search rules) pumped)
     c.loop-taken.invariant.so_far c.pump-read.ensures.pumped
 
 pub returns-in-Some-clause-causes : goal.returns-in-Some-clause-causes
