@@ -12,8 +12,7 @@ use Rattle.ts_journal.specs.Loading.{Loads, load}
 use Rattle.ts_mux.specs.declared.frame.Frame.{Frame}
 use Rattle.ts_mux.specs.Order.{Item}
 use Rattle.ts_words.specs.Lines.{ready_line_of}
-use Rattle.ts_words.specs.declared.mode.Mode.TheVariants as mode
-use Rattle.ts_words.specs.declared.mode.Storage.{Storage}
+use Rattle.ts_words.specs.declared.fault_causes.LastCauses.{LastCauses}
 use Rattle.ts_words.specs.declared.status.Status.{Status}
 use Rattle.ts_words.specs.declared.status.Status.TheVariants as status
 use Rattle.ts_execution.specs.Journaling.{Snapshot, IsJournaled, kept}
@@ -28,7 +27,7 @@ use Rattle.ts_engine.specs.Headline.{RunView, run_view, start}
 use Rattle.ts_engine.specs.HostEnds.{status_of, place_of}
 use Rattle.ts_engine.specs.HostPrefixes.{HostRun, HostPrefixes, run_of_answers, nothing_asked}
 use Rattle.ts_engine.specs.Opening.{NotLoaded, status_opened}
-use Rattle.ts_engine.specs.Top.{ReportsIn}
+use Rattle.ts_engine.specs.Top.{ReportsHost}
 
 -- What a run in this mode shows, before and after: the output and the clock, the steps that come to the hub, and what it
 -- let out. The last three say that a device is as it was.
@@ -190,17 +189,18 @@ module _ (run : HostView) (bytes : List ℕ) (left : Option (List ℕ)) where
   EndsOver end.NotOpened = EndsLoaded end.NotOpened
   EndsOver end.NoMemory = EndsLoaded end.NoMemory
 
--- How a run ended, of which `ends` says what it did, and how that was reported. A good end always has the good status.
-pub record Hosted (ends : HostEnd → Type 0) (kept_in : Storage) (had has : List ℕ → Type 0) (given : Status) : Type 0 where
+-- How a run ended, of which `ends` says what it did, and how that was reported: by the line of its status, with the
+-- cause of a failed hub or log. A good end always has the good status.
+pub record Hosted (ends : HostEnd → Type 0) (causes : LastCauses) (had has : List ℕ → Type 0) (given : Status) : Type 0 where
   pub ended : HostEnd
   pub did : ends ended
-  pub reported : ReportsIn (Some (mode.Host kept_in)) (status_of ended) (place_of ended) given had has
+  pub reported : ReportsHost causes (status_of ended) (place_of ended) given had has
   pub quiet : ended ≡ end.Served served.Ended → given ≡ status.Ended
 
 -- an end was reported by its status and line. Holds even if the bytes of the journal are unknown.
-pub record HasHostLine (kept_in : Storage) (had has : List ℕ → Type 0) (given : Status) : Type 0 where
+pub record HasHostLine (causes : LastCauses) (had has : List ℕ → Type 0) (given : Status) : Type 0 where
   pub ended : HostEnd
-  pub reported : ReportsIn (Some (mode.Host kept_in)) (status_of ended) (place_of ended) given had has
+  pub reported : ReportsHost causes (status_of ended) (place_of ended) given had has
   pub quiet : ended ≡ end.Served served.Ended → given ≡ status.Ended
 
 -- the status of a run over this journal, if no device fails and the steps do not use up the budget

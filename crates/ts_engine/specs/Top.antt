@@ -8,7 +8,8 @@ use Rattle.ts_spec.specs.declared.limits.Limits.{Limits}
 use Rattle.std.specs.declared.alloc.Global.{Global}
 use Rattle.ts_db.specs.DbState.{DbState}
 use Rattle.ts_engine.specs.declared.piped.End.{End}
-use Rattle.ts_words.specs.Endings.{line_of_status, line_of_status_in}
+use Rattle.ts_words.specs.Endings.{host_line_of_status, line_of_status, line_of_status_in}
+use Rattle.ts_words.specs.declared.fault_causes.LastCauses.{LastCauses}
 use Rattle.ts_words.specs.declared.mode.Mode.{Mode}
 use Rattle.ts_words.specs.declared.status.Status.{Status}
 use Rattle.ts_words.specs.declared.status.Status.TheVariants as status
@@ -43,6 +44,10 @@ Reports meant place given had has = WritesLine (line_of_status meant place) mean
 -- the same for its line in this mode
 abbrev pub ReportsIn : Option Mode → (meant : Status) → (place : ℕ) → (given : Status) → (List ℕ → Type 0) → (List ℕ → Type 0) → Type 0
 ReportsIn mode meant place given had has = WritesLine (line_of_status_in mode meant place) meant given had has
+
+-- the same for its line in the mode `host`, with these causes of faults
+abbrev pub ReportsHost : LastCauses → (meant : Status) → (place : ℕ) → (given : Status) → (List ℕ → Type 0) → (List ℕ → Type 0) → Type 0
+ReportsHost causes meant place given had has = WritesLine (host_line_of_status meant place causes) meant given had has
 
 -- how an input with these bytes was answered on the empty database: the output is what the end says, and the end was
 -- reported

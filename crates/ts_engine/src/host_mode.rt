@@ -9,11 +9,11 @@ ghost use Rattle.ts_engine.specs.Hosted.{EndsInMemory, EndsOver, Hosted, HasHost
 ghost use Rattle.ts_engine.specs.Top.{AreUsable};
 
 use crate::host_run::host;
-use crate::status::report_in;
+use crate::status::report_host;
 use std::alloc::Global;
 use ts_db::Limits;
 use ts_io::{Clock, Hub, Log, Sink};
-use ts_words::{Mode, Status, Storage};
+use ts_words::{LastCauses, Status, Storage};
 
 // What the mode is run with.
 #[derive(Clone, Copy)]
@@ -28,7 +28,7 @@ pub(crate) struct HostOptions<'a> {
 
 // Serves any number of links of the hub at once, on what the journal loads to or on a new database. Writes the line
 // `ready` to `out` as soon as links are accepted, and a line for each link that ends. Adds the record of each change to
-// the journal before its reply leaves. Any status other than `Ended` writes its line to `err`.
+// the journal before its reply leaves. Any status other than `Ended` writes its line to `err`, a fault with its cause.
 pub(crate) fn answer_host<H: Hub, K: Sink, E: Sink, C: Clock, J: Log>(
     alloc: Global,
     options: &HostOptions,
@@ -47,12 +47,14 @@ pub(crate) fn answer_host<H: Hub, K: Sink, E: Sink, C: Clock, J: Log>(
         (host_view C.readings K.has H.coming H.out options.now.address.now options.now.limits options.now.budget
         clock.old clock.new out.old out.new hub.old hub.new)
         journal (J.content log.new))
-        options.now.storage (E.has err.old) (E.has err.new) result }
+        (record { hub = H.last_cause hub.new; log = J.last_cause log.new })
+        (E.has err.old) (E.has err.new) result }
     ensures hosted_in_memory { options.now.storage ≡ Storage.Memory → Hosted
         (EndsInMemory
         (host_view C.readings K.has H.coming H.out options.now.address.now options.now.limits options.now.budget
         clock.old clock.new out.old out.new hub.old hub.new))
-        options.now.storage (E.has err.old) (E.has err.new) result }
+        (record { hub = H.last_cause hub.new; log = J.last_cause log.new })
+        (E.has err.old) (E.has err.new) result }
     ensures complete { has_journal options.now.storage ≡ true → (journal : List ℕ) (steps : List Step)
         → J.content log.old ≡ Some journal → H.coming hub.old ≡ Some steps → weight steps < options.now.budget
         → NoHostFault
@@ -67,7 +69,9 @@ pub(crate) fn answer_host<H: Hub, K: Sink, E: Sink, C: Clock, J: Log>(
         (record { hub = H.faults hub.new; lines = K.faults out.new; journal = J.faults log.new })
         → (Rose (E.faults err.old) (E.faults err.new) → ⊥)
         → (result ≡ Status.Memory) ⊎ (result ≡ Status.Ended) }
-    ensures line { HasHostLine options.now.storage (E.has err.old) (E.has err.new) result }
+    ensures line { HasHostLine
+        (record { hub = H.last_cause hub.new; log = J.last_cause log.new })
+        (E.has err.old) (E.has err.new) result }
     ensures no_usage { result ≢ Status.Usage }
     ensures no_capture { result ≢ Status.CaptureBroken }
     ensures no_read_fault { result ≢ Status.ReadFault }
@@ -86,10 +90,16 @@ pub(crate) fn answer_host<H: Hub, K: Sink, E: Sink, C: Clock, J: Log>(
     ensures log { options.now.storage ≡ Storage.Memory → log.new ≡ log.old }
 {
     let end = host(alloc, options, hub, out, clock, log);
-    report_in(
-        Some(Mode::Host(options.storage)),
-        err,
-        end.status(),
-        end.place(),
-    )
+    let causes = last_causes(hub, log);
+    report_host(err, end.status(), end.place(), causes)
+}
+
+// Why the hub and the log failed last, if the system told.
+fn last_causes<H: Hub, J: Log>(hub: &H, log: &J) -> LastCauses
+    ensures { result ≡ record { hub = H.last_cause hub.now; log = J.last_cause log.now } }
+{
+    LastCauses {
+        hub: hub.last_cause(),
+        log: log.last_cause(),
+    }
 }

@@ -46,7 +46,7 @@ pub fn usual_budget() -> u64
 /// - `mux` answers the interleaved connections of the capture in `input`, and writes each reply as a frame to `out`.
 ///
 /// Reads at most `budget` bytes of the input, of each connection and of the journal. Any status other than `Ended`
-/// writes its line to `err`.
+/// writes its line to `err`. That of `host` ends with the cause of a failed hub or journal, if the system told it.
 pub fn top<S: Source, K: Sink, E: Sink, C: Clock, N: Listener, J: Log, H: Hub>(
     alloc: Global,
     words: &[String],
@@ -168,14 +168,16 @@ pub fn top<S: Source, K: Sink, E: Sink, C: Clock, N: Listener, J: Log, H: Hub>(
         (host_view C.readings K.has H.coming H.out (ends.host_address words.now) limits budget
         clock.old clock.new out.old out.new hub.old hub.new)
         journal (J.content log.new))
-        storage (E.has err.old) (E.has err.new) result }
+        (record { hub = H.last_cause hub.new; log = J.last_cause log.new })
+        (E.has err.old) (E.has err.new) result }
 
     // host in memory alone: the same, on the empty database.
     ensures hosted_in_memory { asked words.now ≡ Some (Mode.Host Storage.Memory) → Hosted
         (EndsInMemory
         (host_view C.readings K.has H.coming H.out (ends.host_address words.now) limits budget
         clock.old clock.new out.old out.new hub.old hub.new))
-        Storage.Memory (E.has err.old) (E.has err.new) result }
+        (record { hub = H.last_cause hub.new; log = J.last_cause log.new })
+        (E.has err.old) (E.has err.new) result }
 
     // If no device fails and the steps that come do not use up the budget, the status is that of the journal, or out of
     // memory.
@@ -195,9 +197,12 @@ pub fn top<S: Source, K: Sink, E: Sink, C: Clock, N: Listener, J: Log, H: Hub>(
         → (Rose (E.faults err.old) (E.faults err.new) → ⊥)
         → (result ≡ Status.Memory) ⊎ (result ≡ Status.Ended) }
 
-    // The status line of a status. Holds even if the bytes of the journal and the steps are unknown.
+    // The status line of a status, with the cause of a failed hub or journal. Holds even if the bytes of the journal
+    // and the steps are unknown.
     ensures host_line { (storage : Storage) → asked words.now ≡ Some (Mode.Host storage)
-        → HasHostLine storage (E.has err.old) (E.has err.new) result }
+        → HasHostLine
+        (record { hub = H.last_cause hub.new; log = J.last_cause log.new })
+        (E.has err.old) (E.has err.new) result }
 
     // Only `keep`, and `host` with a journal, report a failed or broken journal.
     ensures only_journal { (result ≡ Status.JournalFault) ⊎ (result ≡ Status.JournalBroken)

@@ -2,11 +2,11 @@
 ghost use Rattle.std.specs.Prelude.{◌≡◌, ◌≢◌, ◌⊎◌, ◌≤◌};
 ghost use Rattle.ts_io.specs.Causes.{Rose};
 ghost use Rattle.ts_engine.specs.Status.{status_of, place_of};
-ghost use Rattle.ts_engine.specs.Top.{Reports, ReportsIn};
+ghost use Rattle.ts_engine.specs.Top.{Reports, ReportsHost, ReportsIn};
 
 use crate::piped::End;
 use ts_io::{Sink, write_all_counted};
-use ts_words::{Mode, Status, line};
+use ts_words::{LastCauses, Mode, Status, host_line, line};
 
 /// The most bytes of the line of a status.
 const ROOM: usize = 160;
@@ -72,6 +72,31 @@ pub(crate) fn report_in<E: Sink>(
     }
     let mut room = [0; ROOM];
     match write_all_counted(err, line(mode, status, place, &mut room)) {
+        Ok(()) => status,
+        Err(_) => Status::WriteFault,
+    }
+}
+
+// The same with the line that the status has in the mode `host`.
+pub(crate) fn report_host<E: Sink>(
+    err: &mut E,
+    status: Status,
+    place: u64,
+    causes: LastCauses,
+) -> Status
+    ensures reported { ReportsHost causes status place result (E.has err.old) (E.has err.new) }
+    ensures later { E.faults err.old ≤ E.faults err.new }
+    ensures cause { result ≡ Status.WriteFault → (status ≡ Status.WriteFault)
+        ⊎ Rose (E.faults err.old) (E.faults err.new) }
+    ensures same { result ≡ Status.WriteFault ⊎ result ≡ status }
+    ensures good { status ≡ Status.Ended → result ≡ Status.Ended }
+    ensures no_fault { result ≢ Status.WriteFault → E.faults err.new ≡ E.faults err.old }
+{
+    if status == Status::Ended {
+        return status;
+    }
+    let mut room = [0; ROOM];
+    match write_all_counted(err, host_line(status, place, causes, &mut room)) {
         Ok(()) => status,
         Err(_) => Status::WriteFault,
     }

@@ -26,18 +26,16 @@ use ts_io::{
 };
 use ts_net::TcpHub;
 
-/// The exit status if memory runs out for the arguments.
-const OUT_OF_MEMORY: u8 = 6;
-
 /// The exit status if the system does not deliver the arguments.
 const NO_WORDS: u8 = 64;
 
 fn main(rt: HostRuntime) -> ExitCode {
-    match run(&rt) {
-        Ok(status) => ExitCode::from(status),
-        Err(error) if error.kind() == ErrorKind::OutOfMemory => ExitCode::from(OUT_OF_MEMORY),
-        Err(_) => ExitCode::from(NO_WORDS),
-    }
+    let status = match run(&rt) {
+        Ok(status) => status,
+        Err(error) if error.kind() == ErrorKind::OutOfMemory => Status::Memory.code(),
+        Err(_) => NO_WORDS,
+    };
+    ExitCode::from(status)
 }
 
 /// Runs the program on the process's streams and clock and the system's network and files. Returns the exit status.
@@ -78,13 +76,25 @@ fn answer<S: Source, K: Sink, E: Sink, C: Clock, N: Listener, J: Log, H: Hub>(
 
     // pipe: the output is the replies to the requests in the input.
     ensures headline { IsPipe words.now → (bytes : List ℕ) → S.left input.old ≡ Some bytes → Headline
-        (record { limits = usual; readings = C.readings clock.old; readings_left = C.readings clock.new; had = K.has out.old; has = K.has out.new })
+        (record {
+          limits = usual;
+          readings = C.readings clock.old;
+          readings_left = C.readings clock.new;
+          had = K.has out.old;
+          has = K.has out.new;
+        })
         (2 ^ 60) bytes (S.left input.new) (E.has err.old) (E.has err.new) result }
 
     // serve: the connections are served one after another, on one database.
     ensures served { (links : ℕ) → asked words.now ≡ Some (Serve links) → Connections
         (record { left = N.In.left; reads = N.In.faults; has = N.Out.has; writes = N.Out.faults })
-        (record { limits = usual; readings = C.readings clock.old; readings_left = C.readings clock.new; had = K.has out.old; has = K.has out.new })
+        (record {
+          limits = usual;
+          readings = C.readings clock.old;
+          readings_left = C.readings clock.new;
+          had = K.has out.old;
+          has = K.has out.new;
+        })
         (2 ^ 60) links (N.coming net.old) (N.coming net.new) (N.closed net.old) (N.closed net.new) (E.has err.old)
         (E.has err.new) result }
 
@@ -96,22 +106,33 @@ fn answer<S: Source, K: Sink, E: Sink, C: Clock, N: Listener, J: Log, H: Hub>(
     ensures journaled { IsKeep words.now → (journal bytes : List ℕ) → J.content log.old ≡ Some journal
         → S.left input.old ≡ Some bytes → Journaled
         (record {
-          seen = record { limits = usual; readings = C.readings clock.old; readings_left = C.readings clock.new; had = K.has out.old; has = K.has out.new };
+          seen = record {
+            limits = usual;
+            readings = C.readings clock.old;
+            readings_left = C.readings clock.new;
+            had = K.has out.old;
+            has = K.has out.new;
+          };
           journal = journal;
           journal_left = J.content log.new;
         })
         ((input.new ≡ input.old) × (out.new ≡ out.old) × (clock.new ≡ clock.old))
         (2 ^ 60) bytes (S.left input.new) (E.has err.old) (E.has err.new) result }
 
-    // host: many connections are answered in one order, on the database that the journal loads to, and each reply leaves
-    // after its record is in the journal.
+    // host: the same for many connections, answered in one order. Each reply leaves after its record is in the journal.
     ensures hosted { (storage : Storage) → asked words.now ≡ Some (Host storage) → has_journal storage ≡ true
         → (journal : List ℕ) → J.content log.old ≡ Some journal → Hosted
         (EndsOver
         (record {
           address = host_address words.now;
           budget = 2 ^ 60;
-          seen = record { limits = usual; readings = C.readings clock.old; readings_left = C.readings clock.new; had = K.has out.old; has = K.has out.new };
+          seen = record {
+            limits = usual;
+            readings = C.readings clock.old;
+            readings_left = C.readings clock.new;
+            had = K.has out.old;
+            has = K.has out.new;
+          };
           coming = H.coming hub.old;
           coming_left = H.coming hub.new;
           out = H.out hub.old;
@@ -121,7 +142,8 @@ fn answer<S: Source, K: Sink, E: Sink, C: Clock, N: Listener, J: Log, H: Hub>(
           same_clock = clock.new ≡ clock.old;
         })
         journal (J.content log.new))
-        storage (E.has err.old) (E.has err.new) result }
+        (record { hub = H.last_cause hub.new; log = J.last_cause log.new })
+        (E.has err.old) (E.has err.new) result }
 
     // host in memory alone: the same, on the empty database.
     ensures hosted_in_memory { asked words.now ≡ Some (Host Memory) → Hosted
@@ -129,7 +151,13 @@ fn answer<S: Source, K: Sink, E: Sink, C: Clock, N: Listener, J: Log, H: Hub>(
         (record {
           address = host_address words.now;
           budget = 2 ^ 60;
-          seen = record { limits = usual; readings = C.readings clock.old; readings_left = C.readings clock.new; had = K.has out.old; has = K.has out.new };
+          seen = record {
+            limits = usual;
+            readings = C.readings clock.old;
+            readings_left = C.readings clock.new;
+            had = K.has out.old;
+            has = K.has out.new;
+          };
           coming = H.coming hub.old;
           coming_left = H.coming hub.new;
           out = H.out hub.old;
@@ -138,14 +166,20 @@ fn answer<S: Source, K: Sink, E: Sink, C: Clock, N: Listener, J: Log, H: Hub>(
           same_output = out.new ≡ out.old;
           same_clock = clock.new ≡ clock.old;
         }))
-        Memory (E.has err.old) (E.has err.new) result }
+        (record { hub = H.last_cause hub.new; log = J.last_cause log.new })
+        (E.has err.old) (E.has err.new) result }
 
     // mux: the output has a frame with the reply to each request of the interleaved connections.
     ensures captured { IsMux words.now → (bytes : List ℕ) → S.left input.old ≡ Some bytes → Captured
-        (record { limits = usual; readings = C.readings clock.old; readings_left = C.readings clock.new; had = K.has out.old; has = K.has out.new })
+        (record {
+          limits = usual;
+          readings = C.readings clock.old;
+          readings_left = C.readings clock.new;
+          had = K.has out.old;
+          has = K.has out.new;
+        })
         (2 ^ 60) bytes (S.left input.new) (E.has err.old) (E.has err.new) result }
 
-    // Invalid arguments write the usage line.
     ensures usage { asked words.now ≡ None → Reports Status.Usage 0 result (E.has err.old) (E.has err.new) }
 {
     top(

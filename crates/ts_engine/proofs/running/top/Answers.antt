@@ -79,13 +79,12 @@ bounds-words-1-in-Some-Keep g c =
 pub returns-in-Some-Host-clause-hosted : goal.returns-in-Some-Host-clause-hosted
 returns-in-Some-Host-clause-hosted g c = λ kept_in is has journal told.
     let same = same-storage (map string_bytes c.args.words.now) c.in-Some-Host.storage kept_in (rw c.in-Some-Host.field-0-is at c.in-Some-Host.ensures.mode) is in
-    subst (λ (s : Storage). has_journal s ≡ true → Hosted (EndsOver (record { address = host_address c.args.words.now; budget = c.args.budget; seen = record { limits = c.args.limits; readings = g.C.Clock.readings c.args.clock.now; readings_left = g.C.Clock.readings c.answer_host.new.clock; had = g.K.Sink.has c.args.out.now; has = g.K.Sink.has c.answer_host.new.out }; coming = g.H.Hub.coming c.args.hub.now; coming_left = g.H.Hub.coming c.answer_host.new.hub; out = g.H.Hub.out c.args.hub.now; out_left = g.H.Hub.out c.answer_host.new.hub; same_hub = c.answer_host.new.hub ≡ c.args.hub.now; same_output = c.answer_host.new.out ≡ c.args.out.now; same_clock = c.answer_host.new.clock ≡ c.args.clock.now }) journal (g.J.Log.content c.answer_host.new.log)) s (g.E.Sink.has c.args.err.now) (g.E.Sink.has c.answer_host.new.err) c.answer_host.result) same
-    (λ kept. subst (λ (l : List ℕ). Hosted (EndsOver (record { address = l; budget = c.args.budget; seen = record { limits = c.args.limits; readings = g.C.Clock.readings c.args.clock.now; readings_left = g.C.Clock.readings c.answer_host.new.clock; had = g.K.Sink.has c.args.out.now; has = g.K.Sink.has c.answer_host.new.out }; coming = g.H.Hub.coming c.args.hub.now; coming_left = g.H.Hub.coming c.answer_host.new.hub; out = g.H.Hub.out c.args.hub.now; out_left = g.H.Hub.out c.answer_host.new.hub; same_hub = c.answer_host.new.hub ≡ c.args.hub.now; same_output = c.answer_host.new.out ≡ c.args.out.now; same_clock = c.answer_host.new.clock ≡ c.args.clock.now }) journal (g.J.Log.content c.answer_host.new.log)) c.in-Some-Host.storage (g.E.Sink.has c.args.err.now) (g.E.Sink.has c.answer_host.new.err) c.answer_host.result)
+    subst (λ (s : Storage). has_journal s ≡ true → Hosted (EndsOver (record { address = host_address c.args.words.now; budget = c.args.budget; seen = record { limits = c.args.limits; readings = g.C.Clock.readings c.args.clock.now; readings_left = g.C.Clock.readings c.answer_host.new.clock; had = g.K.Sink.has c.args.out.now; has = g.K.Sink.has c.answer_host.new.out }; coming = g.H.Hub.coming c.args.hub.now; coming_left = g.H.Hub.coming c.answer_host.new.hub; out = g.H.Hub.out c.args.hub.now; out_left = g.H.Hub.out c.answer_host.new.hub; same_hub = c.answer_host.new.hub ≡ c.args.hub.now; same_output = c.answer_host.new.out ≡ c.args.out.now; same_clock = c.answer_host.new.clock ≡ c.args.clock.now }) journal (g.J.Log.content c.answer_host.new.log)) (record { hub = g.H.Hub.last_cause c.answer_host.new.hub; log = g.J.Log.last_cause c.answer_host.new.log }) (g.E.Sink.has c.args.err.now) (g.E.Sink.has c.answer_host.new.err) c.answer_host.result) same
+    (λ kept. subst (λ (l : List ℕ). Hosted (EndsOver (record { address = l; budget = c.args.budget; seen = record { limits = c.args.limits; readings = g.C.Clock.readings c.args.clock.now; readings_left = g.C.Clock.readings c.answer_host.new.clock; had = g.K.Sink.has c.args.out.now; has = g.K.Sink.has c.answer_host.new.out }; coming = g.H.Hub.coming c.args.hub.now; coming_left = g.H.Hub.coming c.answer_host.new.hub; out = g.H.Hub.out c.args.hub.now; out_left = g.H.Hub.out c.answer_host.new.hub; same_hub = c.answer_host.new.hub ≡ c.args.hub.now; same_output = c.answer_host.new.out ≡ c.args.out.now; same_clock = c.answer_host.new.clock ≡ c.args.clock.now }) journal (g.J.Log.content c.answer_host.new.log)) (record { hub = g.H.Hub.last_cause c.answer_host.new.hub; log = g.J.Log.last_cause c.answer_host.new.log }) (g.E.Sink.has c.args.err.now) (g.E.Sink.has c.answer_host.new.err) c.answer_host.result)
     c.host_address.ensures (c.answer_host.ensures.hosted kept journal told)) has
 
 pub returns-in-Some-Host-clause-hosted_in_memory : goal.returns-in-Some-Host-clause-hosted_in_memory
 returns-in-Some-Host-clause-hosted_in_memory g c = λ is.
     let same = same-storage (map string_bytes c.args.words.now) c.in-Some-Host.storage storage.Memory (rw c.in-Some-Host.field-0-is at c.in-Some-Host.ensures.mode) is in
-    subst (λ (s : Storage). Hosted (EndsInMemory (record { address = host_address c.args.words.now; budget = c.args.budget; seen = record { limits = c.args.limits; readings = g.C.Clock.readings c.args.clock.now; readings_left = g.C.Clock.readings c.answer_host.new.clock; had = g.K.Sink.has c.args.out.now; has = g.K.Sink.has c.answer_host.new.out }; coming = g.H.Hub.coming c.args.hub.now; coming_left = g.H.Hub.coming c.answer_host.new.hub; out = g.H.Hub.out c.args.hub.now; out_left = g.H.Hub.out c.answer_host.new.hub; same_hub = c.answer_host.new.hub ≡ c.args.hub.now; same_output = c.answer_host.new.out ≡ c.args.out.now; same_clock = c.answer_host.new.clock ≡ c.args.clock.now })) s (g.E.Sink.has c.args.err.now) (g.E.Sink.has c.answer_host.new.err) c.answer_host.result) same
-    (subst (λ (l : List ℕ). Hosted (EndsInMemory (record { address = l; budget = c.args.budget; seen = record { limits = c.args.limits; readings = g.C.Clock.readings c.args.clock.now; readings_left = g.C.Clock.readings c.answer_host.new.clock; had = g.K.Sink.has c.args.out.now; has = g.K.Sink.has c.answer_host.new.out }; coming = g.H.Hub.coming c.args.hub.now; coming_left = g.H.Hub.coming c.answer_host.new.hub; out = g.H.Hub.out c.args.hub.now; out_left = g.H.Hub.out c.answer_host.new.hub; same_hub = c.answer_host.new.hub ≡ c.args.hub.now; same_output = c.answer_host.new.out ≡ c.args.out.now; same_clock = c.answer_host.new.clock ≡ c.args.clock.now })) c.in-Some-Host.storage (g.E.Sink.has c.args.err.now) (g.E.Sink.has c.answer_host.new.err) c.answer_host.result)
-    c.host_address.ensures (c.answer_host.ensures.hosted_in_memory same))
+    subst (λ (l : List ℕ). Hosted (EndsInMemory (record { address = l; budget = c.args.budget; seen = record { limits = c.args.limits; readings = g.C.Clock.readings c.args.clock.now; readings_left = g.C.Clock.readings c.answer_host.new.clock; had = g.K.Sink.has c.args.out.now; has = g.K.Sink.has c.answer_host.new.out }; coming = g.H.Hub.coming c.args.hub.now; coming_left = g.H.Hub.coming c.answer_host.new.hub; out = g.H.Hub.out c.args.hub.now; out_left = g.H.Hub.out c.answer_host.new.hub; same_hub = c.answer_host.new.hub ≡ c.args.hub.now; same_output = c.answer_host.new.out ≡ c.args.out.now; same_clock = c.answer_host.new.clock ≡ c.args.clock.now })) (record { hub = g.H.Hub.last_cause c.answer_host.new.hub; log = g.J.Log.last_cause c.answer_host.new.log }) (g.E.Sink.has c.args.err.now) (g.E.Sink.has c.answer_host.new.err) c.answer_host.result)
+    c.host_address.ensures (c.answer_host.ensures.hosted_in_memory same)
