@@ -10,7 +10,7 @@ from hosted import SECONDS, hosted, request
 TS_ADD = ["ts.add", "sensor:__rand_int__", "*", "20.5", "ON_DUPLICATE", "LAST"]
 RECORDED = b"$6\r\nTS.ADD\r\n"
 NODE_MODULES = "/usr/share/nodejs"
-BENCHMARK, CLIENTS, EACH = 16_000, 50, 20
+BENCHMARK, CLIENTS, EACH = 3_200, 50, 20
 
 # Later versions send their name first, unless they are told not to.
 POOL = """if True:
