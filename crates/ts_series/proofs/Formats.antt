@@ -1,6 +1,6 @@
 -- The same samples in both formats, and copies sample by sample.
 use Rattle.std.proofs.Common.{◌≡◌, ◌≢◌, ℕ, zero, suc, ◌+◌, ◌*◌, ◌<◌, ◌≤◌, List, [], ◌∷◌, ◌++◌, length, get_or, take, drop, refl, sym, ◌∙◌, ap, subst, arith, length-append}
-use Rattle.std.specs.Prelude.{Option, None, Some}
+use Rattle.std.specs.Prelude.{Option, None, Some, IfNone, IsSome}
 use Rattle.std.proofs.Math.Seq.{take-suc}
 use Rattle.ts_spec.specs.Sample.{Point, IsAscending, first_of}
 use Rattle.ts_sample.specs.Chunk.{IsChunk, AreInBounds}
@@ -79,3 +79,16 @@ one-further ps n m p is further =
     one [] (suc n) is = absurd (cc is)
     one (q ∷ ps) zero is = refl
     one (q ∷ ps) (suc n) is = one ps n is
+
+-- a chunk whose copy does not fit is none of a plain series
+pub none-plain : {X : Type 0} (o : Option X) (limit most : ℕ) (bytes : List ℕ) (qs : List Point) → IfNone o (most < length (plain qs)) → most ≡ limit → packed qs ≡ bytes
+    → IfNone o ((ps : List Point) → IsChunk packed limit ps → IsChunk plain limit ps → ps ≢ [] → packed ps ≡ bytes → ⊥)
+none-plain None limit most bytes qs full same coded = λ ps _ chunk _ also. (
+    let one : length (plain ps) ≡ length (plain qs) = ap (λ (l : List Point). length (plain l)) (same-packed ps qs (also ∙ sym coded)) in
+    absurd (omega (arith, chunk.fits, one, full)))
+none-plain (Some x) limit most bytes qs full same coded = tt
+
+-- the copy of a plain chunk fits
+pub some-packed : {X : Type 0} (o : Option X) (limit : ℕ) (ps : List Point) → IfNone o (limit < length (packed ps)) → IsChunk plain limit ps → IsSome o
+some-packed None limit ps full chunk = absurd (omega (arith, full, IsChunk.fits (plain-packs limit ps chunk)))
+some-packed (Some x) limit ps full chunk = refl

@@ -1,5 +1,7 @@
 -- A series with a further chunk.
-use Rattle.std.proofs.Common.{◌≡◌, ◌≢◌, ℕ, ◌<◌, ◌≤◌, Bool, true, false, cond, ◌==◌, List, [], ◌∷◌, ◌++◌, length, refl, sym, ◌∙◌, ap, subst, arith, append-nil, eq-eqb, eqb-true}
+use Rattle.std.proofs.Common.{◌≡◌, ◌≢◌, ℕ, ◌<◌, ◌≤◌, Bool, true, false, cond, ◌==◌, List, [], ◌∷◌, ◌++◌, length, refl, sym, ◌∙◌, ap, subst, arith, append-nil, eq-eqb, eqb-true, ◌+◌, map, length-append, inl, inr}
+use Rattle.std.proofs.lemmas.Bool.{cases_lt}
+use Rattle.std.proofs.lemmas.List.{map-append}
 use Rattle.std.specs.Prelude.{nat_le, max, Option, None, Some}
 use Rattle.std.specs.Option.{option_or}
 use Rattle.ts_spec.specs.declared.series.Options.{Options}
@@ -13,12 +15,15 @@ use Rattle.ts_sample.specs.Chunk.{IsChunk, IsPast, joined}
 use Rattle.ts_sample.specs.Visit.{visited}
 use Rattle.ts_sample.proofs.Cuts.{joined-append}
 use Rattle.ts_sample.proofs.Lists.{ascending-right, past-before}
+use Rattle.ts_chunk_packed.specs.Packed.{packed}
 use Rattle.ts_series.specs.declared.chunked_series_restoring.GreatestMade.{GreatestMade}
-use Rattle.ts_series.specs.Stored.{Stored, points, IsTrimmed}
-use Rattle.ts_series.specs.History.{History, history_of, low, record_of, IsKeptIn}
+use Rattle.ts_series.specs.Stored.{Stored, points, AreChunks, AreStoredChunks, IsTrimmed}
+use Rattle.ts_series.specs.History.{History, history_of, low, record_of, format_of, IsKeptIn}
 use Rattle.ts_series.specs.Plan.{AreMade}
-use Rattle.ts_series.specs.Restoring.{CanFollow, with_chunk}
+use Rattle.ts_series.specs.Restoring.{CanFollow, IsNextChunk, RestoresChunk, with_chunk}
 use Rattle.ts_series.proofs.Counting.{times-append}
+use Rattle.ts_series.proofs.Expired.{none-kept}
+use Rattle.ts_series.proofs.Formats.{same-packed}
 use Rattle.ts_series.proofs.Joined.{chunks-append}
 use Rattle.ts_series.proofs.Latest.{each-upto}
 use Rattle.ts_series.proofs.Ready.{Shows}
@@ -28,6 +33,22 @@ use Rattle.ts_series.proofs.Ready.{Shows}
 -- their samples
 pub points-more : (pss : List (List Point)) (ps : List Point) → joined (pss ++ ps ∷ []) ≡ joined pss ++ ps
 points-more pss ps = joined-append pss (ps ∷ []) ∙ ap (λ (l : List Point). joined pss ++ l) (append-nil ps)
+
+-- what holds of them
+pub stored-more : {X : Type 0} (format : List Point → List ℕ) (list : X → List Point) (most : X → ℕ) (xs : List X) (x : X) (count n : ℕ) → AreStoredChunks format (map list xs) (map most xs) count
+    → IsChunk format (most x) (list x) → list x ≢ [] → IsAscending (joined (map list xs) ++ list x) → n ≡ count + length (list x)
+    → AreStoredChunks format (map list (xs ++ x ∷ [])) (map most (xs ++ x ∷ [])) n
+stored-more format list most xs x count n kept chunk some up long =
+    let pieces = map-append list xs (x ∷ []) in
+    let limits = map-append most xs (x ∷ []) in
+    let samples : joined (map list (xs ++ x ∷ [])) ≡ joined (map list xs) ++ list x = ap joined pieces ∙ points-more (map list xs) (list x) in
+    record {
+      chunks = subst (λ (pss : List (List Point)). AreChunks format pss (map most (xs ++ x ∷ []))) (sym pieces)
+          (subst (AreChunks format (map list xs ++ list x ∷ [])) (sym limits)
+          (chunks-append format (map list xs) (list x ∷ []) (map most xs) (most x ∷ []) kept.chunks (chunk, (some, tt))));
+      ascending = subst IsAscending (sym samples) up;
+      counted = omega (arith, long, kept.counted, ap length samples, length-append (joined (map list xs)) (list x));
+    }
 
 -- the first one stays, if there is one
 first-stays : (edge : ℕ) (pss : List (List Point)) (ps : List Point) → IsTrimmed edge pss → (pss ≡ [] → at_times (nat_le edge) ps ≢ []) → IsTrimmed edge (pss ++ ps ∷ [])
@@ -82,6 +103,27 @@ with-is o high born old new h limit ps view pieces limits =
     (λ i. record { options = o; samples = samples i; high = high; born = born; held = record { pieces = pieces i; limits = limits i; room = new.room } }) in
     here ∙ ap (λ (k : History). with_chunk k limit ps new.room) view
 
+-- ---- the last sample
+
+pub no-last : (ps : List Point) → None ≡ last_of ps → ps ≡ []
+no-last [] is = refl
+no-last (p ∷ ps) is = absurd (cc is)
+
+pub some-last : (ps : List Point) (p : Point) → last_of ps ≡ Some p → ps ≢ []
+some-last [] p is = absurd (cc is)
+some-last (q ∷ ps) p is = λ none. absurd (cc none)
+
+pub no-pieces : (pss : List (List Point)) → length pss ≤ 0 → pss ≡ []
+no-pieces [] none = refl
+no-pieces (ps ∷ pss) none = absurd (omega arith)
+
+-- where some sample is from the edge on, the last one is
+pub last-shows : (edge : ℕ) (ps : List Point) (p : Point) → IsAscending ps → last_of ps ≡ Some p → at_times (nat_le edge) ps ≢ [] → edge ≤ p.time
+last-shows edge ps p up is some = elim (cases_lt p.time edge) [
+  | inl less ↦ absurd (some (none-kept edge ps p up is less))
+  | inr late ↦ late
+]
+
 -- ---- the order of the samples
 
 before-past : (t : ℕ) (ps : List Point) → IsAscending ps → IsPast (last_of ps) t → IsBefore t ps
@@ -125,7 +167,7 @@ all-made most (q ∷ ps) up each =
         absurd (cc (is, none))
     later t p is false here = is
 
-abbrev greater : GreatestMade → Point → GreatestMade
+abbrev pub greater : GreatestMade → Point → GreatestMade
 greater g p = record { made = max g.made p.made }
 
 greatest-from : (g : GreatestMade) (ps : List Point) (most : ℕ) → (visited greater g ps).made ≤ most → (g.made ≤ most) × AreMade most ps
@@ -142,3 +184,19 @@ greatest-bounds g ps most none up few = each-made most ps (greatest-from g ps mo
 
 pub bounds-greatest : (g : GreatestMade) (ps : List Point) (most : ℕ) → g.made ≡ 0 → IsAscending ps → Every (λ p. p.made ≤ most) ps → (visited greater g ps).made ≤ most
 bounds-greatest g ps most none up each = greatest-to g ps most (omega arith) (all-made most ps up each)
+
+-- ---- what a restored chunk is
+
+-- the chunk that has these bytes came next
+pub restores : (h k : History) (limit : ℕ) (bytes : List ℕ) (ps : List Point) → packed ps ≡ bytes → IsChunk packed limit ps → IsChunk (format_of h.options.encoding) limit ps → CanFollow h ps
+    → (room : ℕ) → k ≡ with_chunk h limit ps room → RestoresChunk h limit bytes k
+restores h k limit bytes ps coded packs chunk follows room added = record {
+  list = ps;
+  packs_to = coded;
+  next = record { packs = packs; chunk = chunk; follows = follows };
+  added = subst (λ (x : History). x ≡ with_chunk h limit ps x.held.room) (sym added) refl;
+}
+
+-- bytes of samples that can't follow are not those of the next chunk
+pub refuses : (h : History) (limit : ℕ) (bytes : List ℕ) (ps : List Point) → packed ps ≡ bytes → (CanFollow h ps → ⊥) → (qs : List Point) → packed qs ≡ bytes → IsNextChunk h limit qs → ⊥
+refuses h limit bytes ps coded never qs also next = never (subst (CanFollow h) (same-packed qs ps (also ∙ sym coded)) next.follows)

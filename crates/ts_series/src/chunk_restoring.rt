@@ -2,6 +2,7 @@
 ghost use Rattle.std.specs.Prelude.{◌≡◌, ◌≢◌, ◌↔◌, ◌<◌, [], ◌∷◌, ◌++◌, length, IsTrue, OnOk, OnErr};
 ghost use Rattle.std.specs.Prelude.{slice_index, slice_index_or};
 ghost use Rattle.ts_spec.specs.Sample.{IsAscending};
+ghost use Rattle.ts_sample.specs.Chunk.{IsChunk};
 ghost use Rattle.ts_series.specs.Stored.{points};
 
 use crate::chunks::Chunks;
@@ -17,13 +18,25 @@ impl<C: Chunk> Chunks<C> {
         ensures limits { OnOk result (self.new.limits ≡ self.old.limits ++ C.most chunk ∷ []) }
         ensures failed { OnErr result (self.new ≡ self.old) }
     {
-        let len = self.chunks.len();
-        if len == self.chunks.capacity() {
-            self.chunks.reserve_exact(len.max(4))?;
-        }
+        self.reserve_one()?;
         chunk.known();
         self.count += chunk.len();
         self.chunks.push_back_reserved(chunk);
+        Ok(())
+    }
+
+    // Makes sure that one more chunk can be added without allocating. If memory runs out, nothing changes.
+    fn reserve_one(&mut self) -> Result<(), AllocError>
+        ensures pieces { self.new.pieces ≡ self.old.pieces }
+        ensures limits { self.new.limits ≡ self.old.limits }
+        ensures room { OnOk result (0 < self.new.room) }
+        ensures failed { OnErr result (self.new ≡ self.old) }
+    {
+        let len = self.chunks.len();
+        if len < self.chunks.capacity() {
+            return Ok(());
+        }
+        self.chunks.reserve_exact(len.max(4))?;
         Ok(())
     }
 
@@ -47,6 +60,8 @@ impl<C: Chunk> Chunks<C> {
         requires { index < length self.now.pieces }
         ensures list { C.list result.now ≡ slice_index_or self.now.pieces index [] }
         ensures limit { C.most result.now ≡ slice_index self.now.limits index }
+        ensures chunk { IsChunk C.format (slice_index self.now.limits index)
+            (slice_index_or self.now.pieces index []) }
     {
         &self.chunks[index]
     }

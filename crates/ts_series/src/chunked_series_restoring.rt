@@ -46,11 +46,13 @@ impl<C: Chunk> ChunkedSeries<C> {
             → self.new ≡ with_chunk self.old (C.most chunk) (C.list chunk) self.new.held.room }
         ensures refused { result ≡ Ok false → CanFollow self.old (C.list chunk) → ⊥ }
         ensures unchanged { (result ≡ Ok true → ⊥) → self.new ≡ self.old }
+        ensures options { self.new.options ≡ self.old.options }
         ensures kept { IsKeptIn C.format self.new }
     {
         if !self.can_precede(&chunk) {
             return Ok(false);
         }
+        chunk.known();
         self.chunks.push(chunk)?;
         Ok(true)
     }

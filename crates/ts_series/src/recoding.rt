@@ -30,7 +30,8 @@ pub(crate) fn unpacked(
         return Ok(None);
     };
     chunk.known();
-    recoded::<PackedChunk, PlainChunk, Brand>(alloc, &chunk, Blank::new(1))
+    let copy = recoded::<PackedChunk, PlainChunk, Brand>(alloc, &chunk, Blank::new(1))?;
+    Ok(copy)
 }
 
 // The samples of a plain chunk in a packed one of the same limit. They always fit: a plain sample takes 28 bytes, and

@@ -4,7 +4,9 @@ ghost use Rattle.std.specs.Prelude.{◌≡◌, ◌<◌, List, [], length, slice_
 ghost use Rattle.ts_spec.specs.Sample.{Point};
 ghost use Rattle.ts_sample.specs.Chunk.{IsChunk, IsLimit};
 ghost use Rattle.ts_chunk_packed.specs.Packed.{packed};
-ghost use Rattle.ts_series.specs.History.{list_of, IsKept};
+ghost use Rattle.ts_spec.specs.declared.series.Encoding.TheVariants.{Compressed, Uncompressed};
+ghost use Rattle.ts_chunk_plain.specs.Plain.{plain};
+ghost use Rattle.ts_series.specs.History.{list_of, IsKept, IsKeptIn};
 ghost use Rattle.ts_series.specs.Restoring.{IsNextChunk, RestoresChunk};
 
 use crate::chunked_series::ChunkedSeries;
@@ -13,6 +15,7 @@ use crate::series::{Series, SeriesByEncoding};
 use std::alloc::{AllocError, Global};
 use std::marker::Model;
 use ts_chunk_packed::PackedChunk;
+use ts_chunk_plain::PlainChunk;
 use ts_sample::Chunk;
 use ts_spec::{Encoding, Options};
 
@@ -51,14 +54,8 @@ impl Series {
         ensures kept { IsKept self.new }
     {
         match &mut self.by_encoding {
-            SeriesByEncoding::Plain(line) => match unpacked(line.alloc, limit, bytes)? {
-                Some(chunk) => line.restore_chunk(chunk),
-                None => Ok(false),
-            },
-            SeriesByEncoding::Packed(line) => match PackedChunk::of_bytes(line.alloc, limit, bytes)? {
-                Some(chunk) => line.restore_chunk(chunk),
-                None => Ok(false),
-            },
+            SeriesByEncoding::Plain(line) => restore_plain(line, limit, bytes),
+            SeriesByEncoding::Packed(line) => restore_packed(line, limit, bytes),
         }
     }
 
@@ -85,24 +82,67 @@ impl Series {
     }
 
     /// The packed bytes of a chunk's samples. They are copied only if the series is uncompressed.
-    pub fn packed_chunk(
-        &self,
-        alloc: Global,
-        index: usize,
-    ) -> Result<PackedBytes<'_>, AllocError>
+    pub fn packed_chunk(&self, alloc: Global, index: usize) -> Result<PackedBytes<'_>, AllocError>
         requires { index < length self.now.held.pieces }
         ensures bytes { IfOk result (λ b. b ≡ packed (slice_index_or self.now.held.pieces index [])) }
         ensures chunk { IfOk result (λ _. IsChunk packed (slice_index self.now.held.limits index)
             (slice_index_or self.now.held.pieces index [])) }
     {
-        let chunk = match &self.by_encoding {
+        match &self.by_encoding {
             SeriesByEncoding::Plain(line) => {
-                StoredOrMade::Made(repacked(alloc, line.chunks.chunk(index))?)
+                let chunk = StoredOrMade::Made(repacked(alloc, line.chunks.chunk(index))?);
+                Ok(PackedBytes { chunk })
             }
-            SeriesByEncoding::Packed(line) => StoredOrMade::Stored(line.chunks.chunk(index)),
-        };
-        Ok(PackedBytes { chunk })
+            SeriesByEncoding::Packed(line) => {
+                let chunk = StoredOrMade::Stored(line.chunks.chunk(index));
+                Ok(PackedBytes { chunk })
+            }
+        }
     }
+}
+
+// Restores a chunk of an uncompressed series.
+fn restore_plain(
+    line: &mut ChunkedSeries<PlainChunk>,
+    limit: u32,
+    bytes: &[u8],
+) -> Result<bool, AllocError>
+    requires limit { IsLimit limit }
+    requires encoding { line.old.options.encoding ≡ Uncompressed }
+    ensures restored { result ≡ Ok true → RestoresChunk line.old limit bytes.now line.new }
+    ensures refused { result ≡ Ok false
+        → (ps : List Point) → packed ps ≡ bytes.now → IsNextChunk line.old limit ps → ⊥ }
+    ensures unchanged { (result ≡ Ok true → ⊥) → line.new ≡ line.old }
+    ensures options { line.new.options ≡ line.old.options }
+    ensures kept { IsKeptIn plain line.new }
+{
+    let Some(chunk) = unpacked(line.alloc, limit, bytes)? else {
+        return Ok(false);
+    };
+    chunk.known();
+    line.restore_chunk(chunk)
+}
+
+// Restores a chunk of a compressed series.
+fn restore_packed(
+    line: &mut ChunkedSeries<PackedChunk>,
+    limit: u32,
+    bytes: &[u8],
+) -> Result<bool, AllocError>
+    requires limit { IsLimit limit }
+    requires encoding { line.old.options.encoding ≡ Compressed }
+    ensures restored { result ≡ Ok true → RestoresChunk line.old limit bytes.now line.new }
+    ensures refused { result ≡ Ok false
+        → (ps : List Point) → packed ps ≡ bytes.now → IsNextChunk line.old limit ps → ⊥ }
+    ensures unchanged { (result ≡ Ok true → ⊥) → line.new ≡ line.old }
+    ensures options { line.new.options ≡ line.old.options }
+    ensures kept { IsKeptIn packed line.new }
+{
+    let Some(chunk) = PackedChunk::of_bytes(line.alloc, limit, bytes)? else {
+        return Ok(false);
+    };
+    chunk.known();
+    line.restore_chunk(chunk)
 }
 
 /// The packed bytes of a chunk's samples.
