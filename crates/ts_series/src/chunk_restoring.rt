@@ -46,6 +46,7 @@ impl<C: Chunk> Chunks<C> {
     {
         chunk.known();
         let Some(first) = chunk.first() else {
+            // Does nothing at run time: reading the field tells the proof that the chunks are in order.
             let _ = &self.chunks;
             return true;
         };

@@ -15,7 +15,7 @@ use ts_sample::{Chunk, Sample, Steps, Visit};
 use ts_spec::Options;
 
 impl<C: Chunk> ChunkedSeries<C> {
-    // A series without samples, of this highest time and this number of rules ever created on it.
+    // A series without samples, with this highest time and this number of rules ever created on it.
     pub(crate) fn restored(
         alloc: Global,
         options: Options,
@@ -49,7 +49,7 @@ impl<C: Chunk> ChunkedSeries<C> {
         ensures options { self.new.options ≡ self.old.options }
         ensures kept { IsKeptIn C.format self.new }
     {
-        if !self.can_precede(&chunk) {
+        if !self.accepts(&chunk) {
             return Ok(false);
         }
         chunk.known();
@@ -58,7 +58,7 @@ impl<C: Chunk> ChunkedSeries<C> {
     }
 
     // Whether a chunk can follow the others.
-    fn can_precede(&self, chunk: &C) -> bool
+    fn accepts(&self, chunk: &C) -> bool
         ensures { IsTrue result ↔ CanFollow self.now (C.list chunk.now) }
     {
         let Some(last) = chunk.last() else {

@@ -1,5 +1,5 @@
-// Restores a series chunk by chunk, from the packed bytes of each, and gives them out again. The packed format serves
-// for both encodings.
+// Restores a series chunk by chunk, and gives its chunks out to be restored. Both encodings use the packed format for
+// this.
 ghost use Rattle.std.specs.Prelude.{◌≡◌, ◌<◌, List, [], length, slice_index, slice_index_or, IfOk, Ok, true, false};
 ghost use Rattle.ts_spec.specs.Sample.{Point};
 ghost use Rattle.ts_sample.specs.Chunk.{IsChunk, IsLimit};
@@ -20,8 +20,8 @@ use ts_sample::Chunk;
 use ts_spec::{Encoding, Options};
 
 impl Series {
-    /// A series without samples that had its latest sample at `high`, in milliseconds, and on which `born` rules were
-    /// ever created. `restore_chunk` adds its samples.
+    /// A series without samples. The highest time that it ever had a sample at is `high`, in milliseconds, and `born`
+    /// rules were ever created on it. `restore_chunk` adds the samples.
     pub fn restored(alloc: Global, options: Options, high: Option<u64>, born: u32) -> Series
         ensures options { result.options ≡ options }
         ensures high { result.high ≡ high }
@@ -42,9 +42,10 @@ impl Series {
         Series { by_encoding }
     }
 
-    /// Adds the chunk of this limit whose samples have these packed bytes, which may be anything. Returns `false` if
-    /// they are no such samples, or if these can't follow those of the series. The limit is 48 to 1,048,576 bytes,
-    /// all reserved at once. Unless it returns `true`, the series is unchanged.
+    /// Adds a chunk of this limit after the others. `bytes` are its samples in the packed format, for either encoding,
+    /// and may come from anyone: returns `false` if they are not valid or their samples can't follow those of the
+    /// series. The limit is 48 to 1,048,576 bytes, all reserved at once. Unless the result is `Ok(true)`, the series
+    /// is unchanged.
     pub fn restore_chunk(&mut self, limit: u32, bytes: &[u8]) -> Result<bool, AllocError>
         requires { IsLimit limit }
         ensures restored { result ≡ Ok true → RestoresChunk self.old limit bytes.now self.new }
@@ -81,7 +82,8 @@ impl Series {
         }
     }
 
-    /// The packed bytes of a chunk's samples. They are copied only if the series is uncompressed.
+    /// A chunk's samples in the packed format. An uncompressed series packs them into a new chunk of the same limit; a
+    /// compressed one allocates nothing.
     pub fn packed_chunk(&self, alloc: Global, index: usize) -> Result<PackedBytes<'_>, AllocError>
         requires { index < length self.now.held.pieces }
         ensures bytes { IfOk result (λ b. b ≡ packed (slice_index_or self.now.held.pieces index [])) }
@@ -145,13 +147,13 @@ fn restore_packed(
     line.restore_chunk(chunk)
 }
 
-/// The packed bytes of a chunk's samples.
+/// A chunk's samples in the packed format.
 #[derive(Drop)]
 pub struct PackedBytes<'a> {
     chunk: StoredOrMade<'a>,
 }
 
-// A chunk that a series has, or one made for its bytes alone.
+// A chunk of the series, or one that was made for its bytes alone.
 #[derive(Drop)]
 enum StoredOrMade<'a> {
     Stored(&'a PackedChunk),

@@ -1,6 +1,6 @@
 use Rattle.std.proofs.Common.{◌≡◌, ◌++◌, [], ◌∷◌, length, take, false, sym, ◌∙◌, ap, subst, arith}
-use Rattle.std.specs.Prelude.{List, nat_le, Some, None}
-use Rattle.ts_spec.specs.Sample.{Point, first_of, last_of}
+use Rattle.std.specs.Prelude.{List, nat_le}
+use Rattle.ts_spec.specs.Sample.{Point, last_of}
 use Rattle.ts_sample.specs.Chunk.{IsPast}
 use Rattle.ts_sample.proofs.Fitting.{past-taken, too-long}
 use Rattle.ts_series.proofs.Formats.{next-there, all-read, one-further}

@@ -1,5 +1,5 @@
 use Rattle.std.proofs.Common.{◌≡◌, refl, sym, subst}
-use Rattle.ts_series.specs.History.{History, history_of, IsKeptIn}
+use Rattle.ts_series.specs.History.{history_of, IsKeptIn}
 use Rattle.ts_series.specs.Restoring.{CanFollow, with_chunk}
 use Rattle.ts_series.proofs.Ready.{Shows}
 use Rattle.ts_series.proofs.Restoring.{kept-with, with-is}
@@ -18,7 +18,7 @@ invariant_of-self-2 g c =
     let ps = g.C.Chunk.list c.args.chunk in
     let shows : Shows h = subst Shows c.self.view_is refl in
     let kept : IsKeptIn g.C.Chunk.format h = subst (IsKeptIn g.C.Chunk.format) c.self.view_is c.self.invariant in
-    let follows : CanFollow h ps = c.can_precede.ensures.0 c.if-not-can_precede.false in
+    let follows : CanFollow h ps = c.accepts.ensures.0 c.if-not-accepts.false in
     subst (IsKeptIn g.C.Chunk.format) (sym (added g (goal.at.invariant_of-self-2 g c).In_ok-push)) (kept-with h (g.C.Chunk.most c.args.chunk) ps c.push.new.self.room shows kept c.known.ensures follows)
 
 pub returns-clause-added : goal.returns-clause-added

@@ -1,4 +1,4 @@
-use Rattle.std.proofs.Common.{◌≡◌, ◌+◌, ◌++◌, [], ◌∷◌, length, map, sym, ◌∙◌, ap, subst, arith}
+use Rattle.std.proofs.Common.{◌+◌, ◌++◌, [], ◌∷◌, map, sym, ◌∙◌, ap, subst, arith}
 use Rattle.std.specs.Prelude.{List}
 use Rattle.ts_spec.specs.Sample.{Point, IsAscending}
 use Rattle.ts_sample.specs.Chunk.{joined}

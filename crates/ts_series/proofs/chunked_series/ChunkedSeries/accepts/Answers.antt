@@ -1,12 +1,12 @@
-use Rattle.std.proofs.Common.{◌≡◌, ◌≤◌, ◌++◌, refl, sym, ◌∙◌, ap, subst}
-use Rattle.std.specs.Prelude.{ℕ, Option, Some, None, nat_le}
+use Rattle.std.proofs.Common.{◌≡◌, ◌≤◌, ◌++◌, sym, ◌∙◌, ap, subst}
+use Rattle.std.specs.Prelude.{ℕ, Option, Some, nat_le}
 use Rattle.ts_spec.specs.Sample.{Point, IsAscending, at_times, last_of}
 use Rattle.ts_spec.specs.Valid.{Every, IsUpTo}
 use Rattle.ts_spec.proofs.Tidy.{some-same}
 use Rattle.ts_series.specs.Stored.{points}
 use Rattle.ts_series.specs.History.{History}
 use Rattle.ts_series.proofs.Restoring.{no-last, some-last}
-use Rattle.ts_series.proofs.chunked_series.ChunkedSeries.can_precede.Goals as goal
+use Rattle.ts_series.proofs.chunked_series.ChunkedSeries.accepts.Goals as goal
 
 pub returns-in_default : goal.returns-in_default
 returns-in_default g c = (λ no. absurd (cc no), λ follows. absurd (follows.some (no-last (g.C.Chunk.list c.args.chunk.now) c.in_default.ensures)))
