@@ -4,7 +4,7 @@
 #[cfg(test)]
 mod db;
 #[cfg(test)]
-mod restored;
+mod restored_series;
 #[cfg(test)]
 mod rules;
 #[cfg(test)]
