@@ -4,6 +4,8 @@
 #[cfg(test)]
 mod db;
 #[cfg(test)]
+mod restored;
+#[cfg(test)]
 mod rules;
 #[cfg(test)]
 mod series;
