@@ -4,6 +4,8 @@
 #[cfg(test)]
 mod db;
 #[cfg(test)]
+mod restored;
+#[cfg(test)]
 mod restored_series;
 #[cfg(test)]
 mod rules;
