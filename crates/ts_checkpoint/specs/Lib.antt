@@ -1,0 +1,10 @@
+pub mod FaultNames
+pub mod Numbers
+pub mod Parts
+pub mod PartOf
+pub mod PartWords
+pub mod Reading
+pub mod Records
+pub mod Restoring
+pub mod Sayable
+pub mod WithinLimits

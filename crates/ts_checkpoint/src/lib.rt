@@ -1,0 +1,20 @@
+//! The records of a checkpoint: the words of each, as a RESP request, and how they parse. A checkpoint is a head, and
+//! then for each series a record with its options and one for each of its chunks, and then a record for each rule.
+#![tactic(auto)]
+
+mod commands;
+mod draft;
+mod fit;
+mod laws;
+mod numbers;
+mod part;
+mod read;
+mod read_rule;
+mod read_series;
+mod write;
+
+pub use fit::{encode_record, fits};
+pub use laws::{a_changed_byte_is_refused, a_written_checkpoint_restores, written_parts_read_back};
+pub use part::{Part, PartFault, Piece, RuleRecord, SeriesHead};
+pub use read::read_part;
+pub use write::{head_record, piece_record, rule_record, series_record};
