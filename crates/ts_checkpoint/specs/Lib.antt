@@ -1,4 +1,7 @@
+pub mod Checks
 pub mod FaultNames
+pub mod Fronts
+pub mod Loading
 pub mod Numbers
 pub mod Parts
 pub mod PartOf
@@ -7,4 +10,5 @@ pub mod Reading
 pub mod Records
 pub mod Restoring
 pub mod Sayable
+pub mod Unpacked
 pub mod WithinLimits
