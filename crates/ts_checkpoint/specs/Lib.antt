@@ -1,10 +1,12 @@
+pub mod Checks
 pub mod FaultNames
 pub mod Numbers
-pub mod Parts
 pub mod PartOf
 pub mod PartWords
+pub mod Parts
 pub mod Reading
 pub mod Records
 pub mod Restoring
 pub mod Sayable
+pub mod Unpacked
 pub mod WithinLimits
