@@ -3,9 +3,9 @@ pub mod FaultNames
 pub mod Fronts
 pub mod Loading
 pub mod Numbers
-pub mod Parts
 pub mod PartOf
 pub mod PartWords
+pub mod Parts
 pub mod Reading
 pub mod Records
 pub mod Restoring
