@@ -6,3 +6,12 @@ pub mod RuleRead
 pub mod WithinLimits
 pub mod ReadBack
 pub mod Restored
+mod Offsets
+mod LoadOn
+mod RestoreOn
+mod Heads
+mod LoadStart
+pub mod JournalLoads
+pub mod JournalFronts
+pub mod JournalGrown
+mod AsBefore

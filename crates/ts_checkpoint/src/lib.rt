@@ -5,6 +5,7 @@
 mod commands;
 mod draft;
 mod fit;
+mod journal_laws;
 mod laws;
 mod numbers;
 mod part;
@@ -14,6 +15,10 @@ mod read_series;
 mod write;
 
 pub use fit::{encode_record, fits};
+pub use journal_laws::{
+    a_journal_grows_by_records, a_journal_without_a_checkpoint_loads_as_before,
+    fronts_of_a_journal_load,
+};
 pub use laws::{a_changed_byte_is_refused, a_written_checkpoint_restores, written_parts_read_back};
 pub use part::{Part, PartFault, Piece, RuleRecord, SeriesHead};
 pub use read::read_part;
