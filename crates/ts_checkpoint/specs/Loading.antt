@@ -1,5 +1,7 @@
 -- What a journal loads to: the database after the checkpoint that it may begin with, and after the changes in it.
 use Rattle.std.specs.Prelude.{◌≡◌, ℕ, zero, suc, ◌==◌, true, if◌then◌else◌, List, [], ◌∷◌, ◌++◌, length, take, drop, Option, None, Some}
+use Rattle.ts_spec.specs.Encoded.{encoded}
+use Rattle.ts_spec.specs.Represents.{RepresentsState}
 use Rattle.ts_spec.specs.Sample.{Point}
 use Rattle.ts_spec.specs.State.{State, empty}
 use Rattle.ts_spec.specs.StoredSeries.{kept}
@@ -138,3 +140,9 @@ abbrev pub HasOnlyRecords : Limits → List ℕ → Type 0
 HasOnlyRecords limits bytes =
     (place : ℕ) (m : State) → load limits (take place bytes) ≡ Loads m place
     → begins_as_record (drop place bytes) ≡ true
+
+-- the requests are a journal that loads to a state with the same stored data
+pub record RestoresStored (limits : Limits) (m : State) (requests : List Request) : Type 0 where
+  pub state : State
+  pub loads : LoadsTo limits (encoded requests) state
+  pub same : RepresentsState limits (kept m) state

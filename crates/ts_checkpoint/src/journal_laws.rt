@@ -1,18 +1,21 @@
-//! Laws of journals that may begin with a checkpoint, each on a function with an empty body.
+//! Laws of journals that may begin with a checkpoint, each stated on a function.
 
-ghost use Rattle.std.specs.Prelude.{◌≡◌, ◌<◌, ◌≤◌, ℕ, List, [], ◌++◌, length, take};
+ghost use Rattle.std.specs.Prelude.{◌≡◌, ◌<◌, ◌≤◌, ℕ, List, [], ◌++◌, length, take, All};
 ghost use Rattle.ts_spec.specs.declared.limits.Limits.{Limits};
 ghost use Rattle.ts_spec.specs.Command.{Command};
+ghost use Rattle.ts_spec.specs.Encoded.{encoded, Fits};
 ghost use Rattle.ts_spec.specs.StreamPrefixes.{IsWithin};
-ghost use Rattle.ts_spec.specs.State.{State};
+ghost use Rattle.ts_spec.specs.State.{State, empty};
 ghost use Rattle.ts_spec.specs.Text.{Reply};
-ghost use Rattle.ts_journal.specs.Limits.{IsBounded};
+ghost use Rattle.ts_spec.specs.Wire.{Request};
+ghost use Rattle.ts_journal.specs.Limits.{IsBounded, journal_limits};
 ghost use Rattle.ts_journal.specs.Loading as changes;
 ghost use Rattle.ts_journal.specs.Loading.{Loads};
 ghost use Rattle.ts_journal.specs.Record.{record_of};
 ghost use Rattle.ts_journal.specs.RecordReplay.{IsRecorded};
 ghost use Rattle.ts_checkpoint.specs.Fronts.{checkpoint_size, FrontLoads};
-ghost use Rattle.ts_checkpoint.specs.Loading.{load, LoadsTo, HasOnlyRecords};
+ghost use Rattle.ts_checkpoint.specs.Loading.{load, LoadsTo, HasOnlyRecords, RestoresStored};
+ghost use Rattle.ts_checkpoint.specs.Restoring.{IsWritten};
 
 /// A law: appending the record of an executed command to a journal makes it load to the state after the command. The
 /// command's request is within the server's limits. If only a part of the record was written, the journal loads to the
@@ -59,4 +62,27 @@ pub fn a_journal_without_a_checkpoint_loads_as_before()
         → load limits bytes ≡ changes.load limits bytes }
     ensures still { (limits : Limits) (bytes : List ℕ) (m : State) (place : ℕ)
         → changes.load limits bytes ≡ Loads m place → load limits bytes ≡ Loads m place }
+{}
+
+/// A law: the records of the checkpoint of a valid state are a journal that loads to a state with the same stored data,
+/// if words can say each of them and each fits the limits of journals. The samples of a series may be in any chunks.
+pub fn a_checkpoint_restores()
+    ensures stored { (limits : Limits) (m : State) (requests : List Request) → IsBounded limits.wire
+        → IsWritten limits m requests → All (Fits (journal_limits limits.wire)) requests
+        → RestoresStored limits m requests }
+    ensures records { (limits : Limits) (m : State) (requests : List Request) → IsBounded limits.wire
+        → IsWritten limits m requests → All (Fits (journal_limits limits.wire)) requests
+        → HasOnlyRecords limits (encoded requests) }
+{
+    ts_journal::records_read_back();
+    ts_restore::a_checkpoint_restores_what_was_stored();
+}
+
+/// A law: what loads has the whole checkpoint, if it begins with one. A prefix that ends within the checkpoint does not
+/// load, except as an empty journal if it ends within the first record.
+pub fn a_part_of_a_checkpoint_does_not_load()
+    ensures whole { (limits : Limits) (bytes : List ℕ) (m : State) (place : ℕ) → load limits bytes ≡ Loads m place
+        → checkpoint_size limits bytes ≤ place }
+    ensures part { (limits : Limits) (bytes : List ℕ) (n : ℕ) → n < checkpoint_size limits bytes
+        → (m : State) (place : ℕ) → load limits (take n bytes) ≡ Loads m place → m ≡ empty }
 {}

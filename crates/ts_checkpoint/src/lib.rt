@@ -16,10 +16,11 @@ mod write;
 
 pub use fit::{encode_record, fits};
 pub use journal_laws::{
-    a_journal_grows_by_records, a_journal_without_a_checkpoint_loads_as_before,
+    a_checkpoint_restores, a_journal_grows_by_records,
+    a_journal_without_a_checkpoint_loads_as_before, a_part_of_a_checkpoint_does_not_load,
     fronts_of_a_journal_load,
 };
-pub use laws::{a_changed_byte_is_refused, a_written_checkpoint_restores, written_parts_read_back};
+pub use laws::{a_changed_byte_is_refused, written_parts_read_back};
 pub use part::{Part, PartFault, Piece, RuleRecord, SeriesHead};
 pub use read::read_part;
 pub use write::{head_record, piece_record, rule_record, series_record};
