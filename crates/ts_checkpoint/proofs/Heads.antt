@@ -1,16 +1,18 @@
 -- The head of a checkpoint is no command.
-use Rattle.std.proofs.Common.{◌≡◌, ℕ, Bool, true, false, if◌then◌else◌, List, [], ◌∷◌, length, codes, refl, sym, ◌∙◌, ap}
+use Rattle.std.proofs.Common.{◌≡◌, ◌≢◌, ℕ, suc, Bool, true, false, if◌then◌else◌, List, [], ◌∷◌, length, codes, refl, sym, ◌∙◌, ap, subst, arith}
+use Rattle.std.proofs.lemmas.List.{length-map}
 use Rattle.std.proofs.lemmas.Slice.Eq.{bytes_eq-Decides}
-use Rattle.std.specs.Prelude.{Option, None, Some, Result, Ok, ◌&&◌, ◌||◌, nat_le, drop}
+use Rattle.std.specs.Prelude.{Option, None, Some, Result, Ok, Err, ⊤, ◌&&◌, ◌||◌, nat_le, drop}
 use Rattle.std.specs.Fmt.{decimal}
-use Rattle.std.specs.Str.{bytes_eq}
+use Rattle.std.specs.Char.{to_ascii_lowercase}
+use Rattle.std.specs.Str.{bytes_eq, str_eq_ignore_ascii_case, str_to_ascii_lowercase}
 use Rattle.ts_spec.specs.Aggregate.{Summary}
 use Rattle.ts_spec.specs.Bucket.{Grid}
 use Rattle.ts_spec.specs.Command.{Command, Create, CreateRule}
 use Rattle.ts_spec.specs.Grammar.{command, commands, by_form}
 use Rattle.ts_spec.specs.Key.{same}
-use Rattle.ts_spec.specs.Names.{named}
-use Rattle.ts_spec.specs.Refusal.{Fault}
+use Rattle.ts_spec.specs.Names.{Table, named}
+use Rattle.ts_spec.specs.Refusal.{Fault, UnknownCommand}
 use Rattle.ts_spec.specs.Wire.{Request}
 use Rattle.ts_sample.specs.Chunk.{least_limit, greatest_limit}
 use Rattle.ts_restore.specs.CheckNumber.{check_number}
@@ -81,14 +83,12 @@ rule-no_head words = read (rule_numbers words)
 
 -- ---- a head has its own name
 
-unknown : (words : Request) (c : Command) → command (codes "TSD.CHECKPOINT" ∷ words) ≡ Ok c → ⊥
-unfolding commands
-unknown words c e = cc
+abbrev head_name : List ℕ
+head_name = codes "TSD.CHECKPOINT"
 
-unchecked-no_head : (name : List ℕ) (check : List ℕ) (words : Request) (c : Command) → command (name ∷ check ∷ words) ≡ Ok c
-    → parts_said (unchecked_part (name ∷ words)) ≡ None
+unchecked-name : (name : List ℕ) (words : Request) (n : ℕ) → parts_said (unchecked_part (name ∷ words)) ≡ Some n → name ≡ head_name
 unfolding unchecked_part
-unchecked-no_head name check words c said = first (bytes_eq name (codes "TSD.CHECKPOINT")) refl
+unchecked-name name words n = first (bytes_eq name head_name) refl
   where
     third : (b : Bool) → parts_said (if b then piece_part words else (if bytes_eq name (codes "TSD.RULE") then rule_part words else None)) ≡ None
     third true = piece-no_head words
@@ -99,18 +99,61 @@ unchecked-no_head name check words c said = first (bytes_eq name (codes "TSD.CHE
     second true = series-no_head words
     second false = third (bytes_eq name (codes "TSD.PIECE"))
 
-    first : (b : Bool) → bytes_eq name (codes "TSD.CHECKPOINT") ≡ b
+    first : (b : Bool) → bytes_eq name head_name ≡ b
         → parts_said (if b then head_part words else (if bytes_eq name (codes "TSD.SERIES") then series_part words
-        else (if bytes_eq name (codes "TSD.PIECE") then piece_part words else (if bytes_eq name (codes "TSD.RULE") then rule_part words else None)))) ≡ None
-    first true e =
-        let its : name ≡ codes "TSD.CHECKPOINT" = (bytes_eq-Decides name (codes "TSD.CHECKPOINT")).0 e in
-        absurd (unknown (check ∷ words) c (ap (λ (n : List ℕ). command (n ∷ check ∷ words)) (sym its) ∙ said))
-    first false e = second (bytes_eq name (codes "TSD.SERIES"))
+        else (if bytes_eq name (codes "TSD.PIECE") then piece_part words else (if bytes_eq name (codes "TSD.RULE") then rule_part words else None)))) ≡ Some n
+        → name ≡ head_name
+    first true its e = (bytes_eq-Decides name head_name).0 its
+    first false its e =
+        let none : None ≡ Some n = sym (second (bytes_eq name (codes "TSD.SERIES"))) ∙ e in
+        absurd cc
+
+checked-name : (b : Bool) (name : List ℕ) (words : Request) (n : ℕ) → parts_said (if b then unchecked_part (name ∷ words) else None) ≡ Some n → name ≡ head_name
+checked-name true name words n e = unchecked-name name words n e
+checked-name false name words n e = absurd cc
+
+-- ---- no command has a name of so many letters
+
+-- the names of a table have other lengths
+abbrev HaveOtherLengths : {X : Type 0} → (n : ℕ) → Table X → Type 0
+HaveOtherLengths n [] = ⊤
+HaveOtherLengths n (row ∷ rows) = (length row.0 ≢ n) × HaveOtherLengths n rows
+
+named-none : {X : Type 0} (table : Table X) (word : List ℕ) → HaveOtherLengths (length word) table → named table word ≡ None
+named-none [] word h = refl
+named-none (row ∷ rows) word h = go (str_eq_ignore_ascii_case row.0 word) refl (named-none rows word h.1)
+  where
+    go : (b : Bool) → str_eq_ignore_ascii_case row.0 word ≡ b → named rows word ≡ None → (if b then Some row.1 else named rows word) ≡ None
+    go true its others =
+        let same = (bytes_eq-Decides (str_to_ascii_lowercase row.0) (str_to_ascii_lowercase word)).0 its in
+        absurd (h.0 (sym (length-map row.0 to_ascii_lowercase) ∙ ap length same ∙ length-map word to_ascii_lowercase))
+    go false its others = others
+
+no-name : HaveOtherLengths (length head_name) commands
+unfolding commands
+no-name = search arith
+
+unknown-name : (name : List ℕ) → length name ≡ length head_name → named commands name ≡ None
+unknown-name name same = named-none commands name (subst (λ (n : ℕ). HaveOtherLengths n commands) (sym same) no-name)
+
+-- a request whose name is as long as that of a head is no command
+pub unknown-command : (name : List ℕ) (words : Request) → length name ≡ length head_name → command (name ∷ words) ≡ Err UnknownCommand
+unknown-command name words same = ap (λ o. by_form o (suc (length words)) words) (unknown-name name same)
+
+-- ---- heads
+
+pub head-named : (name : List ℕ) (words : Request) (n : ℕ) → parts_said (part_of (name ∷ words)) ≡ Some n → name ≡ head_name
+unfolding part_of
+head-named name [] n e = absurd cc
+head-named name (check ∷ words) n e = checked-name (bytes_eq check (decimal (check_number (name ∷ words)))) name words n e
 
 -- a command is no head
 pub command-no_head : (request : Request) (c : Command) → command request ≡ Ok c → parts_said (part_of request) ≡ None
-unfolding part_of
-command-no_head [] c e = refl
-command-no_head (name ∷ []) c e = refl
-command-no_head (name ∷ check ∷ words) c e =
-    no-head-if (bytes_eq check (decimal (check_number (name ∷ words)))) (unchecked_part (name ∷ words)) (unchecked-no_head name check words c e)
+command-no_head [] c e = absurd cc
+command-no_head (name ∷ words) c e = go (parts_said (part_of (name ∷ words))) refl
+  where
+    go : (o : Option ℕ) → parts_said (part_of (name ∷ words)) ≡ o → o ≡ None
+    go None its = refl
+    go (Some n) its =
+        let fault : Err UnknownCommand ≡ Ok c = sym (unknown-command name words (ap length (head-named name words n its))) ∙ e in
+        absurd cc

@@ -1,6 +1,6 @@
 //! Laws of journals that may begin with a checkpoint, each stated on a function.
 
-ghost use Rattle.std.specs.Prelude.{◌≡◌, ◌<◌, ◌≤◌, ℕ, List, [], ◌++◌, length, take, All};
+ghost use Rattle.std.specs.Prelude.{◌≡◌, ◌<◌, ◌≤◌, ℕ, List, [], ◌∷◌, ◌++◌, length, take, All};
 ghost use Rattle.ts_spec.specs.declared.limits.Limits.{Limits};
 ghost use Rattle.ts_spec.specs.Command.{Command};
 ghost use Rattle.ts_spec.specs.Encoded.{encoded, Fits};
@@ -10,9 +10,10 @@ ghost use Rattle.ts_spec.specs.Text.{Reply};
 ghost use Rattle.ts_spec.specs.Wire.{Request};
 ghost use Rattle.ts_journal.specs.Limits.{IsBounded, journal_limits};
 ghost use Rattle.ts_journal.specs.Loading as changes;
-ghost use Rattle.ts_journal.specs.Loading.{Loads};
+ghost use Rattle.ts_journal.specs.Loading.{Loads, BreaksAt};
 ghost use Rattle.ts_journal.specs.Record.{record_of};
 ghost use Rattle.ts_journal.specs.RecordReplay.{IsRecorded};
+ghost use Rattle.ts_checkpoint.specs.Damage.{DiffersInByte};
 ghost use Rattle.ts_checkpoint.specs.Fronts.{checkpoint_size, FrontLoads};
 ghost use Rattle.ts_checkpoint.specs.Loading.{load, LoadsTo, HasOnlyRecords, RestoresStored};
 ghost use Rattle.ts_checkpoint.specs.Restoring.{IsWritten};
@@ -85,4 +86,15 @@ pub fn a_part_of_a_checkpoint_does_not_load()
         → checkpoint_size limits bytes ≤ place }
     ensures part { (limits : Limits) (bytes : List ℕ) (n : ℕ) → n < checkpoint_size limits bytes
         → (m : State) (place : ℕ) → load limits (take n bytes) ≡ Loads m place → m ≡ empty }
+{}
+
+/// A law: a journal with one changed byte in a word of its checkpoint breaks. The place at which it breaks is no later
+/// than the start of the damaged record.
+pub fn a_changed_byte_breaks_the_journal()
+    ensures { (limits : Limits) (before after : List Request) (one other : Request) (m : State) (place : ℕ)
+        → IsBounded limits.wire → DiffersInByte one other
+        → All (Fits (journal_limits limits.wire)) (before ++ one ∷ after)
+        → load limits (encoded (before ++ one ∷ after)) ≡ Loads m place
+        → length (encoded before) < checkpoint_size limits (encoded (before ++ one ∷ after))
+        → (at : ℕ) × (at ≤ length (encoded before)) × (load limits (encoded (before ++ other ∷ after)) ≡ BreaksAt at) }
 {}
