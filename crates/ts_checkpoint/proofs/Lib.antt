@@ -2,7 +2,14 @@ pub mod Appending
 pub mod ChangedBytes
 pub mod CommandsBack
 pub mod Decimals
-pub mod RuleRead
 pub mod WithinLimits
 pub mod ReadBack
 pub mod Restored
+pub mod Deciding
+pub mod ExactChecks
+pub mod ExactChunks
+pub mod Unpacking
+pub mod SameLabels
+pub mod ShortSummaries
+pub mod SameOptions
+pub mod SayableSeries

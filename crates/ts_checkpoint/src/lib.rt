@@ -2,6 +2,7 @@
 //! then for each series a record with its options and one for each of its chunks, and then a record for each rule.
 #![tactic(auto)]
 
+mod check_laws;
 mod commands;
 mod draft;
 mod fit;
@@ -11,10 +12,13 @@ mod part;
 mod read;
 mod read_rule;
 mod read_series;
+mod sayable;
 mod write;
 
+pub use check_laws::{checks_are_exact, new_rules_have_short_summaries, packed_chunks_unpack};
 pub use fit::{encode_record, fits};
 pub use laws::{a_changed_byte_is_refused, a_written_checkpoint_restores, written_parts_read_back};
 pub use part::{Part, PartFault, Piece, RuleRecord, SeriesHead};
 pub use read::read_part;
+pub use sayable::{piece_reads_back, rule_reads_back, series_head};
 pub use write::{head_record, piece_record, rule_record, series_record};
