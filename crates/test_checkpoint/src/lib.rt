@@ -4,4 +4,6 @@
 #[cfg(test)]
 mod read;
 #[cfg(test)]
+mod sayable;
+#[cfg(test)]
 mod write;

@@ -64,7 +64,7 @@ fn series(rt: HostRuntime) -> Result<(), Fail> {
         pieces: 1,
     };
     let words = series_record(rt.alloc(), &series)?;
-    assert!(rt; words.len() == 22);
+    assert!(rt; words.len() == 23);
     let (front, back) = words.split_at(11);
     assert!(rt;
         says(

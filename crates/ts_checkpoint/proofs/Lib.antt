@@ -2,16 +2,30 @@ pub mod Appending
 pub mod ChangedBytes
 pub mod CommandsBack
 pub mod Decimals
-pub mod RuleRead
 pub mod WithinLimits
 pub mod ReadBack
 pub mod Restored
-mod Offsets
-mod LoadOn
-mod RestoreOn
-mod Heads
-mod LoadStart
+pub mod Deciding
+pub mod ExactChecks
+pub mod ExactChunks
+pub mod Unpacking
+pub mod SameLabels
+pub mod ShortSummaries
+pub mod SameOptions
+pub mod SayableSeries
+pub mod Offsets
+pub mod LoadOn
+pub mod RestoreOn
+pub mod Heads
+pub mod LoadStart
 pub mod JournalLoads
 pub mod JournalFronts
 pub mod JournalGrown
-mod AsBefore
+pub mod AsBefore
+pub mod CheckpointSize
+pub mod StoredSamples
+pub mod NextChunks
+pub mod RestoredParts
+pub mod RestoredRequests
+pub mod DamagedRecords
+pub mod DamagedBytes

@@ -1,4 +1,5 @@
 pub mod Checks
+pub mod Damage
 pub mod FaultNames
 pub mod Fronts
 pub mod Loading

@@ -3,7 +3,6 @@ ghost use Rattle.std.specs.Prelude.{◌≡◌, ◌∷◌, [], OnOk};
 ghost use Rattle.std.specs.Fmt.{decimal};
 ghost use Rattle.ts_spec.specs.Command as command;
 ghost use Rattle.ts_spec.specs.Replies.{aggregator_name};
-ghost use Rattle.ts_labels.specs.Spec.{spec_of};
 ghost use Rattle.ts_journal.specs.Record.{retention_words, encoding_words, chunk_size_words, policy_words};
 ghost use Rattle.ts_journal.specs.Record.{ignore_words, label_pairs, labels_words, spec_words, record_words};
 ghost use Rattle.ts_journal.specs.Record as record_;
@@ -14,17 +13,22 @@ use crate::part::RuleRecord;
 use std::alloc::AllocError;
 use ts_agg::name;
 use ts_bucket::Grid;
-use ts_labels::{Labels, Spec};
+use ts_labels::Labels;
 use ts_resp::Word;
-use ts_spec::{Aggregator, Encoding, Ignore, Policy};
+use ts_spec::{Aggregator, Encoding, Ignore, Options, Policy};
 
-pub(crate) fn put_create(draft: &mut Draft, key: &Word, spec: &Spec) -> Result<(), AllocError>
-    ensures { OnOk result
-        (Appends draft.old draft.new (record_words 0 (command.Create key.now (spec_of spec.now)))) }
+pub(crate) fn put_create(
+    draft: &mut Draft,
+    key: &Word,
+    options: &Options,
+    labels: &Labels,
+) -> Result<(), AllocError>
+    ensures { OnOk result (Appends draft.old draft.new
+        (record_words 0 (command.Create key.now (record { options = options.now; labels = labels.now })))) }
 {
     draft.put(b"TS.CREATE")?;
     draft.put_word(key)?;
-    put_spec(draft, spec)
+    put_spec(draft, options, labels)
 }
 
 pub(crate) fn put_create_rule(draft: &mut Draft, rule: &RuleRecord) -> Result<(), AllocError>
@@ -60,16 +64,16 @@ fn put_align(draft: &mut Draft, grid: &Grid) -> Result<(), AllocError>
 }
 
 // All options of a new series.
-fn put_spec(draft: &mut Draft, spec: &Spec) -> Result<(), AllocError>
-    ensures { OnOk result (Appends draft.old draft.new (spec_words (spec_of spec.now))) }
+fn put_spec(draft: &mut Draft, options: &Options, labels: &Labels) -> Result<(), AllocError>
+    ensures { OnOk result
+        (Appends draft.old draft.new (spec_words (record { options = options.now; labels = labels.now }))) }
 {
-    let options = &spec.options;
     put_retention(draft, options.retention)?;
     put_encoding(draft, options.encoding)?;
     put_chunk_size(draft, options.chunk_size)?;
     put_policy(draft, options.policy)?;
     put_ignore(draft, options.ignore)?;
-    put_labels(draft, &spec.labels)
+    put_labels(draft, labels)
 }
 
 fn put_retention(draft: &mut Draft, retention: u64) -> Result<(), AllocError>

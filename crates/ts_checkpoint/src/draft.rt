@@ -95,6 +95,13 @@ impl Draft {
         }
     }
 
+    // The words so far.
+    pub(crate) fn unchecked(self) -> Vec<Word>
+        ensures { result.items ≡ self }
+    {
+        self.words
+    }
+
     // All words of the record, with the check number.
     pub(crate) fn checked(self) -> Result<Vec<Word>, AllocError>
         ensures { IfOk result (λ words. words.items ≡ checked self) }

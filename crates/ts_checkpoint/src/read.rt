@@ -13,9 +13,9 @@ use itoa::Buffer;
 use ts_resp::Word;
 
 // The least and the greatest limit of a chunk, in bytes.
-const LEAST_LIMIT: u32 = 48;
+pub(crate) const LEAST_LIMIT: u32 = 48;
 
-const GREATEST_LIMIT: u32 = 1_048_576;
+pub(crate) const GREATEST_LIMIT: u32 = 1_048_576;
 
 /// What a record of a checkpoint says. Refuses words that are damaged or out of range. Allocates no more than the words
 /// take.

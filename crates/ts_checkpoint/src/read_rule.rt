@@ -17,7 +17,9 @@ use ts_restore::SummaryParts;
 pub(crate) fn read_rule(words: Vec<Word>) -> Result<Part, PartFault>
     ensures { Reads (rule_part (drop 1 words.items)) result }
 {
-    let numbers = read_rule_numbers(words.as_slice()).ok_or(PartFault::Refused)?;
+    let Some(numbers) = read_rule_numbers(words.as_slice()) else {
+        return Err(PartFault::Refused);
+    };
     let command = read_command(words, 9)?;
     created_rule(numbers, command).ok_or(PartFault::Refused)
 }

@@ -49,6 +49,14 @@ pub(crate) fn read_command(words: Vec<Word>, at: usize) -> Result<Command, PartF
 {
     let mut words = words;
     let words = words.split_off(at).map_err(PartFault::Memory)?;
+    parse_command(words)
+}
+
+// Parses a command.
+pub(crate) fn parse_command(words: Vec<Word>) -> Result<Command, PartFault>
+    ensures ok { IfOk result (λ c. command words.items ≡ Ok (command_of c)) }
+    ensures fault { IfErr result (IsCommandFault (command words.items)) }
+{
     match read(words) {
         Ok(command) => Ok(command),
         Err(CommandFault::Memory(error)) => Err(PartFault::Memory(error)),

@@ -32,7 +32,12 @@ pub fn series_record(alloc: Global, series: &SeriesHead) -> Result<Vec<Word>, Al
     draft.put_time(series.high)?;
     draft.put_small_number(series.born)?;
     draft.put_small_number(series.pieces)?;
-    put_create(&mut draft, &series.key, &series.spec)?;
+    put_create(
+        &mut draft,
+        &series.key,
+        &series.spec.options,
+        &series.spec.labels,
+    )?;
     draft.checked()
 }
 
