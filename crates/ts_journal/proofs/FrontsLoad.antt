@@ -15,7 +15,7 @@ use Rattle.ts_journal.proofs.Unfinished.{finished, unfinished}
 
 -- ---- the front of its whole requests
 
-finished-loads : (limits : Limits) (m : State) (before size : ℕ) (stream : Stream) (n : State) (place : ℕ) → ending_of stream ≡ Inside place
+pub finished-loads : (limits : Limits) (m : State) (before size : ℕ) (stream : Stream) (n : State) (place : ℕ) → ending_of stream ≡ Inside place
     → load_on limits m before size stream ≡ Loads n place → load_on limits m before place (finished stream) ≡ Loads n place
 finished-loads limits m before size (Then request after rest) n place inside e =
     let next = loads-next limits m before size request after rest n place e in
@@ -52,7 +52,7 @@ front-begins (suc n) (byte ∷ bytes) is = is
 
 -- ---- any front
 
-front-loads : (limits : Limits) (m : State) (before size total : ℕ) (stream other : Stream) (n : State) (place : ℕ) → IsStreamPrefix stream other
+pub front-loads : (limits : Limits) (m : State) (before size total : ℕ) (stream other : Stream) (n : State) (place : ℕ) → IsStreamPrefix stream other
     → load_on limits m before total other ≡ Loads n place → (mid : State) × (at : ℕ) × (load_on limits m before size stream ≡ Loads mid at)
 front-loads limits m before size total (Then request after rest) other n place front e =
     let next = loads-next limits m before total request after front.0 n place (sym (ap (load_on limits m before total) front.1) ∙ e) in

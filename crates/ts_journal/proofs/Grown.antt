@@ -77,7 +77,7 @@ words-encoded : (words : Request) → words ≢ [] → bytes_of words ≡ encode
 words-encoded [] some = absurd (some refl)
 words-encoded (word ∷ words) some = refl
 
-record-encoded : (c : Command) (reading : ℕ) (reply : Reply) → record_of c reading reply ≢ [] → record_of c reading reply ≡ encoded_request (record_words reading (accepted c reply))
+pub record-encoded : (c : Command) (reading : ℕ) (reply : Reply) → record_of c reading reply ≢ [] → record_of c reading reply ≡ encoded_request (record_words reading (accepted c reply))
 record-encoded c reading reply some =
     ap (λ b. if b then [] else bytes_of (record_words reading (accepted c reply))) (not-refused c reading reply some)
     ∙ words-encoded (record_words reading (accepted c reply)) (some-words c reading reply some)
@@ -100,7 +100,7 @@ one-request Ended request e ended = absurd cc
 one-request (Inside begin) request e ended = absurd cc
 one-request (Broken kind at) request e ended = absurd cc
 
-request-alone : (limits : WireLimits) (request : Request) (place : ℕ) → limits.words < 2 ^ 64 → limits.word_bytes < 2 ^ 64 → Fits limits request
+pub request-alone : (limits : WireLimits) (request : Request) (place : ℕ) → limits.words < 2 ^ 64 → limits.word_bytes < 2 ^ 64 → Fits limits request
     → (after : ℕ) × (stream_at limits place (encoded_request request) ≡ Then request after Ended)
 request-alone limits request place few short fits =
     let read = requests-encoded limits (request ∷ []) place few short (All-cons (Fits limits) request [] fits (All-nil (Fits limits))) in

@@ -17,15 +17,15 @@ mod Lengths
 mod OptionCosts
 mod ChangeCosts
 mod CommandCosts
-mod Fitting
+pub mod Fitting
 mod OptionWords
 mod OptionsRead
 pub mod ReadBack
 mod ShortAnswers
 mod TakenTriples
-mod Replays
+pub mod Replays
 pub mod Unfinished
-mod Almost
+pub mod Almost
 pub mod Rests
 pub mod Loads
 pub mod Grown

@@ -77,7 +77,7 @@ loads-ended limits bytes m e =
 -- ---- more bytes
 
 -- requests, and more after them
-loads-continued_by : (limits : Limits) (m : State) (before size total : ℕ) (stream rest : Stream) (n : State) (place : ℕ) → ending_of stream ≡ Ended
+pub loads-continued_by : (limits : Limits) (m : State) (before size total : ℕ) (stream rest : Stream) (n : State) (place : ℕ) → ending_of stream ≡ Ended
     → load_on limits m before size stream ≡ Loads n place
     → (last : ℕ) × (load_on limits m before total (continued_by stream rest) ≡ load_on limits n last total rest)
 loads-continued_by limits m before size total (Then request after others) rest n place ended e =

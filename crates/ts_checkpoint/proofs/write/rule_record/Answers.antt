@@ -1,0 +1,14 @@
+use Rattle.std.proofs.Common.{◌≡◌, subst}
+use Rattle.std.specs.Prelude.{IfOk}
+use Rattle.ts_spec.specs.Wire.{Request}
+use Rattle.ts_checkpoint.specs.PartWords.{checked}
+use Rattle.ts_checkpoint.proofs.Appending.{puts-then, puts-all}
+use Rattle.ts_checkpoint.proofs.write.rule_record.Goals as goal
+
+pub returns : goal.returns
+returns c =
+    let p1 = puts-then c.in_ok-put.ensures c.in_ok-put_small_number.ensures in
+    let p2 = puts-then p1 c.in_ok-put_time.ensures in
+    let p3 = puts-then p2 c.in_ok-put_summary.ensures in
+    let p4 = puts-then p3 c.in_ok-put_create_rule.ensures in
+    subst (λ (d : Request). IfOk c.checked.result (λ words. words.items ≡ checked d)) (puts-all c.new-draft.ensures p4) c.checked.ensures

@@ -1,0 +1,15 @@
+pub mod Checks
+pub mod Damage
+pub mod FaultNames
+pub mod Fronts
+pub mod Loading
+pub mod Numbers
+pub mod PartOf
+pub mod PartWords
+pub mod Parts
+pub mod Reading
+pub mod Records
+pub mod Restoring
+pub mod Sayable
+pub mod Unpacked
+pub mod WithinLimits
