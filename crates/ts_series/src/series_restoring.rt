@@ -1,13 +1,15 @@
 // Restores a series chunk by chunk, and gives its chunks out to be restored. Both encodings use the packed format for
 // this.
-ghost use Rattle.std.specs.Prelude.{◌≡◌, ◌<◌, List, [], length, slice_index, slice_index_or, IfOk, Ok, true, false};
-ghost use Rattle.ts_spec.specs.Sample.{Point};
+ghost use Rattle.std.specs.Prelude.{◌≡◌, ◌<◌, List, [], length, slice_index, slice_index_or, nat_le};
+ghost use Rattle.std.specs.Prelude.{IfOk, Ok, true, false};
+ghost use Rattle.ts_spec.specs.Sample.{Point, at_times};
 ghost use Rattle.ts_sample.specs.Chunk.{IsChunk, IsLimit};
 ghost use Rattle.ts_chunk_packed.specs.Packed.{packed};
 ghost use Rattle.ts_spec.specs.declared.series.Encoding.TheVariants.{Compressed, Uncompressed};
 ghost use Rattle.ts_chunk_plain.specs.Plain.{plain};
-ghost use Rattle.ts_series.specs.History.{list_of, IsKept, IsKeptIn};
+ghost use Rattle.ts_series.specs.History.{list_of, low, IsKept, IsKeptIn};
 ghost use Rattle.ts_series.specs.Restoring.{IsNextChunk, RestoresChunk};
+ghost use Rattle.ts_series.specs.Stored.{points};
 
 use crate::chunked_series::ChunkedSeries;
 use crate::recoding::{repacked, unpacked};
@@ -60,9 +62,11 @@ impl Series {
         }
     }
 
-    /// The number of chunks.
+    /// The number of chunks. The contract also tells callers that the series shows the samples of its chunks from the
+    /// retention edge on.
     pub fn chunk_count(&self) -> usize
-        ensures { result ≡ length self.now.held.pieces }
+        ensures count { result ≡ length self.now.held.pieces }
+        ensures shown { list_of self.now ≡ at_times (nat_le (low self.now)) (points self.now.held) }
     {
         match &self.by_encoding {
             SeriesByEncoding::Plain(line) => line.chunks.chunk_count(),
