@@ -52,24 +52,40 @@ impl DraftFile {
         write_some(&self.file, bytes)
     }
 
-    /// Syncs the draft, and gives it the name of the log's file. Fails unless both names still lead to their files.
+    pub(crate) fn sync(&self) -> io::Result<()> {
+        self.file.sync_all()
+    }
+
+    /// Gives the draft the name of the log's file. Fails unless both names still lead to their files.
     pub(crate) fn take_name<R: Files<File = File>>(&self, rt: &R, log: &File) -> io::Result<()> {
-        self.file.sync_all()?;
-        check_is(fs::symlink_metadata(rt, &self.name), &self.file.metadata()?)?;
+        self.check_name(rt)?;
         check_is(fs::symlink_metadata(rt, &self.log_name), &log.metadata()?)?;
         fs::rename(rt, &self.name, &self.log_name)
     }
 
-    /// The file, and the outcome of syncing its folder. After that the new name outlives a power failure.
-    pub(crate) fn finish<R: Files<File = File>>(self, rt: &R) -> (File, io::Result<()>) {
-        let DraftFile { file, log_name, .. } = self;
-        (file, sync_folder(rt, &log_name))
+    /// Syncs the folder.
+    pub(crate) fn sync_name<R: Files<File = File>>(&self, rt: &R) -> io::Result<()> {
+        sync_folder(rt, &self.log_name)
+    }
+
+    pub(crate) fn into_file(self) -> File {
+        self.file
     }
 
     /// Closes the draft and removes its file, which frees the space on the disk. A file that can't be removed stays until
     /// the next draft.
     pub(crate) fn remove<R: Files<File = File>>(self, rt: &R) {
-        let _ = fs::remove_file(rt, &self.name);
+        let _ = self.remove_name(rt);
+    }
+
+    fn remove_name<R: Files<File = File>>(&self, rt: &R) -> io::Result<()> {
+        self.check_name(rt)?;
+        fs::remove_file(rt, &self.name)
+    }
+
+    // Fails unless the name still leads to the draft.
+    fn check_name<R: Files<File = File>>(&self, rt: &R) -> io::Result<()> {
+        check_is(fs::symlink_metadata(rt, &self.name), &self.file.metadata()?)
     }
 }
 

@@ -22,6 +22,7 @@ mod mem_listener;
 mod mem_log;
 mod mem_streams;
 mod no_log;
+mod publishing;
 mod schedule;
 mod sending;
 mod streams;

@@ -4,6 +4,7 @@ ghost use Rattle.std.specs.Io.{ReadsAtMost, WritesAtMost};
 
 use crate::draft_file::DraftFile;
 use crate::journal_file::{cut_and_sync, open_locked, write_some};
+use crate::publishing::{Publishing, succeed};
 use crate::system::read_retried;
 use std::fs::File;
 use std::io;
@@ -127,12 +128,18 @@ impl LogFiles {
         let Some(draft) = self.draft.take() else {
             return Err(io::Error::from(ErrorKind::NotConnected))
         };
-        if let Err(error) = draft.take_name(rt, self.file()?) {
+        let mut publishing = Publishing {
+            rt,
+            draft: &draft,
+            log: self.file()?,
+            has_name: false,
+        };
+        let outcome = succeed(&mut publishing);
+        if publishing.has_name {
+            self.file = Some(draft.into_file());
+        } else {
             draft.remove(rt);
-            return Err(error);
         }
-        let (file, outcome) = draft.finish(rt);
-        self.file = Some(file);
         outcome
     }
 
