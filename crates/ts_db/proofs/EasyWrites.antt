@@ -1,6 +1,6 @@
 -- How many samples a write and a deletion decode for the rules of a key.
-use Rattle.std.proofs.Common.{◌≡◌, ◌≤◌, ◌<◌, ◌+◌, ◌*◌, ℕ, true, List, [], ◌∷◌, map, length, refl, sym, ◌∙◌, ap, subst, arith, ltb-true, ◌^◌}
-use Rattle.std.specs.Prelude.{⊤, sum_by, Option, None, Some, option_map, ◌-◌}
+use Rattle.std.proofs.Common.{◌≡◌, ◌≤◌, ◌<◌, ◌+◌, ◌*◌, ℕ, true, List, [], ◌∷◌, map, length, refl, sym, ◌∙◌, ap, subst, arith, ltb-true}
+use Rattle.std.specs.Prelude.{⊤, sum_by, Option, None, Some, option_map}
 use Rattle.std.proofs.lemmas.List.Sums.{sum_by-cons}
 use Rattle.slab.specs.Slab as slab
 use Rattle.ts_spec.specs.Sample.{Point, between, last_of}
@@ -16,9 +16,9 @@ use Rattle.ts_spec.specs.StoredStep.{list_at, stored_rules_at}
 use Rattle.ts_spec.proofs.Buckets.{start-order}
 use Rattle.ts_spec.proofs.Linked.{From, mapped-from}
 use Rattle.ts_spec.proofs.StoredMaps.{get-kept}
-use Rattle.ts_sample.specs.Chunk.{IsPast, greatest_limit}
+use Rattle.ts_sample.specs.Chunk.{IsPast}
 use Rattle.ts_sample.specs.declared.sample.Id.{Id}
-use Rattle.ts_series.specs.History.{History, list_of, reach, limit_for, format_of, IsKept}
+use Rattle.ts_series.specs.History.{list_of, reach}
 use Rattle.ts_rules.specs.declared.rule.Rule.{Rule}
 use Rattle.ts_rules.specs.Rules.{stored_rule_for}
 use Rattle.ts_rules.specs.Shares as shares
@@ -32,7 +32,6 @@ use Rattle.ts_db.specs.Bounds.{high_at, rule_steps, write_steps, AllClosePastAll
 use Rattle.ts_db.specs.Planning.{share_at, shares_of, IsEasyAt, AreEasyOf}
 use Rattle.ts_db.specs.Store.{rules_by, key_at, key_in, stored_node, id_for_key, db_view_of, AreLive, IsDb, Holds}
 use Rattle.ts_db.proofs.Applying.{there}
-use Rattle.ts_series.specs.Stored.{AreChunks, greatest}
 use Rattle.ts_db.proofs.Reaches.{reach-held}
 
 -- ---- an appended sample lies in no bucket before the open one

@@ -36,7 +36,7 @@ any-by : (names : Id → Key) (rs : List Rule) → any_rules (rules_by names rs)
 any-by names [] = refl
 any-by names (r ∷ rs) = refl
 
-many-by : (names : Id → Key) (rs : List Rule) → length (rules_by names rs) ≡ length rs
+pub many-by : (names : Id → Key) (rs : List Rule) → length (rules_by names rs) ≡ length rs
 many-by names [] = refl
 many-by names (r ∷ rs) = ap suc (many-by names rs)
 

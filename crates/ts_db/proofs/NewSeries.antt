@@ -1,11 +1,11 @@
 -- When a series of a checkpoint is new and valid, in terms of what a store tests.
-use Rattle.std.proofs.Common.{◌≡◌, ℕ, ◌<◌, ◌≤◌, Bool, true, false, nat_le, if◌then◌else◌, List, length, refl, sym, ap, ◌∙◌, arith}
-use Rattle.std.specs.Prelude.{Option, None, Some}
+use Rattle.std.proofs.Common.{◌≡◌, ℕ, ◌≤◌, Bool, true, false, nat_le, if◌then◌else◌, List, length, refl, sym, ap, ◌∙◌, arith}
+use Rattle.std.specs.Prelude.{nat_lt, Option, None, Some, is_some}
 use Rattle.std.proofs.lemmas.Bool.Decides.{nat_tests}
 use Rattle.ts_spec.specs.declared.limits.Limits.{Limits}
 use Rattle.ts_spec.specs.Key.{Key}
 use Rattle.ts_spec.specs.Keyed.{get, count_keys}
-use Rattle.ts_spec.specs.Sample.{Point, at, at_times}
+use Rattle.ts_spec.specs.Sample.{Point, at}
 use Rattle.ts_spec.specs.State.{Label, edge_of}
 use Rattle.ts_spec.specs.StoredSeries.{StoredKeys}
 use Rattle.ts_spec.proofs.Samples.{at-time, at-times}
@@ -13,10 +13,11 @@ use Rattle.ts_restore.specs.Restorable.{IsSampleOf, IsNewSeries}
 use Rattle.ts_series.specs.History.{History, list_of, IsKept}
 use Rattle.ts_db.specs.Restoring.{part_of_series}
 
-module _ (limits : Limits) (keys : StoredKeys) (key : Key) (labels : List Label) (h : History) (kept : IsKept h) where
-  low : ℕ
-  low = edge_of h.options.retention h.high
+none-of : {X : Type 0} (o : Option X) → false ≡ is_some o → o ≡ None
+none-of None e = refl
+none-of (Some x) e = absurd (cc e)
 
+module _ (limits : Limits) (keys : StoredKeys) (key : Key) (labels : List Label) (h : History) (kept : IsKept h) where
   one : (t : ℕ) (p : Point) → at t (list_of h) ≡ Some p → IsSampleOf (part_of_series key labels h) p
   one t p e = record { from_edge = from; to_high = (kept.own t p e).time; made = (kept.own t p e).made }
     where
@@ -32,10 +33,11 @@ module _ (limits : Limits) (keys : StoredKeys) (key : Key) (labels : List Label)
           (sym (at-times t (nat_le (edge_of h.options.retention h.high)) (list_of h)) ∙ ap (at t) kept.past_edge ∙ e) in
           omega (arith, time, edge)
 
-  pub new-series : get key keys ≡ None → count_keys keys < limits.keys → length labels ≤ limits.labels → h.born ≤ limits.born → length (list_of h) ≤ limits.samples
-      → IsNewSeries limits keys (part_of_series key labels h)
+  -- it is new and valid if it passes the tests
+  pub new-series : false ≡ is_some (get key keys) → false ≡ nat_le limits.keys (count_keys keys) → false ≡ nat_lt limits.labels (length labels) → h.born ≤ limits.born
+      → length (list_of h) ≤ limits.samples → IsNewSeries limits keys (part_of_series key labels h)
   new-series missing room few born samples = record {
-    series = record { labels = few; born = born; samples = samples; ascending = kept.ascending; list = one };
-    missing = missing;
-    room = room;
+    series = record { labels = grind (arith, nat_tests); born = born; samples = samples; ascending = kept.ascending; list = one };
+    missing = none-of (get key keys) missing;
+    room = grind (arith, nat_tests);
   }

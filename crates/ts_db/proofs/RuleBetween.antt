@@ -1,5 +1,5 @@
 -- When a rule between two keys may be restored, in terms of their nodes, and the stored data afterwards.
-use Rattle.std.proofs.Common.{◌≡◌, ◌<◌, ◌≤◌, ℕ, false, List, [], ◌∷◌, ◌++◌, length, refl, sym, ap, ◌∙◌, subst, arith}
+use Rattle.std.proofs.Common.{◌≡◌, ◌+◌, ◌*◌, ◌<◌, ◌≤◌, ℕ, false, List, [], ◌∷◌, length, refl, sym, ap, ◌∙◌, subst, arith}
 use Rattle.std.specs.Prelude.{Option, None, Some, option_map}
 use Rattle.std.specs.List.{All}
 use Rattle.std.proofs.lemmas.List.Elements.{All-nil, All-cons, All-head, All-tail}
@@ -7,23 +7,27 @@ use Rattle.ts_spec.specs.Key.{Key, same}
 use Rattle.ts_spec.specs.Keyed.{get}
 use Rattle.ts_spec.specs.StoredSeries.{StoredRule, StoredSeries}
 use Rattle.ts_spec.specs.StoredKeys.{keys_changed}
+use Rattle.ts_spec.specs.StoredStep.{list_at}
 use Rattle.ts_spec.proofs.Tidy.{some-same}
 use Rattle.ts_restore.specs.Restored.{with_stored_rule, keys_with_rule}
 use Rattle.ts_restore.specs.Restorable.{IsBucket, IsRule, AreMadeBefore, IsNewRule}
 use Rattle.ts_sample.specs.declared.sample.Id.{Id}
+use Rattle.ts_sample.specs.Steps.{Takes}
+use Rattle.ts_series.specs.History.{list_of, reach}
 use Rattle.ts_rules.specs.declared.rule.Rule.{Rule}
-use Rattle.ts_rules.specs.Rules.{stored_rule_for}
 use Rattle.ts_db.specs.declared.node.Node.{Node}
 use Rattle.ts_db.specs.declared.restoring.RestoredRule.{RestoredRule}
 use Rattle.ts_db.specs.declared.store.Store.{Store}
 use Rattle.ts_db.specs.Answering.{IsElsewhere}
 use Rattle.ts_db.specs.Linking.{IsStoredChange, stored_with_source}
-use Rattle.ts_db.specs.Restorable.{IsCreatedAfter, AreFree, HasBucket, CanRestore}
-use Rattle.ts_db.specs.Restoring.{part_of_rule}
-use Rattle.ts_db.specs.Store.{stored_series, rules_by, key_in, stored_named, stored_node, db_view_of, contents_of, Contents, IsInOrder, Holds}
+use Rattle.ts_db.specs.Restorable.{CanRestore}
+use Rattle.ts_db.specs.DbState.{reach_at}
+use Rattle.ts_db.specs.Restoring.{part_of_rule, restored_rule_steps}
+use Rattle.ts_db.specs.Store.{stored_series, rules_by, key_in, stored_named, stored_node, id_for_key, db_view_of, contents_of, Contents, HasNode, IsInOrder, Holds}
 use Rattle.ts_db.proofs.Applying.{there}
 use Rattle.ts_db.proofs.Known.{named}
 use Rattle.ts_db.proofs.NewRules.{many-by}
+use Rattle.ts_db.proofs.Reaches.{reach-held}
 
 -- ---- two nodes
 
@@ -54,6 +58,33 @@ nil-by names [] e = refl
 nil-by names (r ∷ rs) e = absurd (cc e)
 
 -- ---- two keys of a store
+
+-- the nodes of both keys
+pub record AreBoth (s : Store) (source dest : Key) (from to : Id) : Type 0 where
+  pub n : Node
+  pub d : Node
+  pub holds : Holds s source from n
+  pub other : Holds s dest to d
+
+pub both-of : (s : Store) → IsInOrder s → (source dest : Key) (from to : Id) → id_for_key source s.keys.entries ≡ Some from → id_for_key dest s.keys.entries ≡ Some to → AreBoth s source dest from to
+both-of s store source dest from to is is_dest =
+    let n = store.stored source from is in
+    let d = store.stored dest to is_dest in
+    record { n = n.0; d = d.0; holds = record { number = is; node = n.1 }; other = record { number = is_dest; node = d.1 } }
+
+pub source-node : (s : Store) (source dest : Key) (from to : Id) → AreBoth s source dest from to → HasNode s.nodes from
+source-node s source dest from to both = record { node = both.n; there = both.holds.node }
+
+pub dest-node : (s : Store) (source dest : Key) (from to : Id) → AreBoth s source dest from to → HasNode s.nodes to
+dest-node s source dest from to both = record { node = both.d; there = both.other.node }
+
+-- the steps of a scan of the source are those that callers are told
+pub rule-steps : (s : Store) → IsInOrder s → (source : Key) (from : Id) (n : Node) → Holds s source from n → (old new : ℕ) → Takes old new (length (list_of n.series) + 2 * reach n.series)
+    → Takes old new (restored_rule_steps (db_view_of s) source)
+rule-steps s store source from n holds old new t =
+    let list : length (list_of n.series) ≡ length (list_at (get source (db_view_of s).keys)) = ap (λ (o : Option StoredSeries). length (list_at o)) (sym (there s store source from n holds)) in
+    let far : reach_at (db_view_of s) source ≡ reach n.series = reach-held s source from n holds in
+    record { counted = t.counted; bounded = omega (arith, t.bounded, list, far) }
 
 module _ (s : Store) (store : IsInOrder s) (source dest : Key) (from to : Id) (n d : Node) (holds : Holds s source from n) (other : Holds s dest to d) (r : RestoredRule) where
   pub new-rule : same source dest ≡ false → 1 ≤ r.grid.duration → CanRestore s.limits n d r → IsNewRule s.limits (db_view_of s).keys (part_of_rule source dest r)

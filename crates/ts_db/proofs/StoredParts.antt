@@ -1,13 +1,12 @@
 -- What a checkpoint says of the keys of a store: their ids, their series and their rules.
 use Rattle.std.proofs.Common.{◌≡◌, List, [], ◌∷◌, refl, sym, ap, ◌∙◌, subst}
-use Rattle.std.specs.Prelude.{map, Option, None, Some, option_map}
+use Rattle.std.specs.Prelude.{map, Option, None, Some, option_map, Result, Ok, Err, IfOk}
 use Rattle.std.specs.Cmp.Lexicographic.{slice_cmp}
 use Rattle.std.specs.List.{All}
 use Rattle.std.specs.List.Sorted.{IsStrictlySortedBy}
 use Rattle.std.specs.Map.{keys_of}
 use Rattle.std.specs.Ordering.{nat_cmp}
 use Rattle.std.proofs.lemmas.List.Elements.{All-nil, All-cons}
-use Rattle.slab.specs.Slab as slab
 use Rattle.ts_spec.specs.Key.{Key}
 use Rattle.ts_spec.specs.Keyed.{Keyed, Entry}
 use Rattle.ts_spec.specs.StoredSeries.{StoredRule, StoredSeries}
@@ -37,13 +36,19 @@ listed nodes ids (e ∷ es) nodes_there found = go (stored_at_id nodes e.1) (ap 
     go None is rest = absurd (cc is)
     go (Some d) is rest = (found.0, rest)
 
-pub all-ids : (s : Store) → IsInOrder s → IsStrictlySortedBy (slice_cmp nat_cmp) (keys_of s.keys.entries) → All (λ e. id_for_key e.0 s.keys.entries ≡ Some e.1) s.keys.entries
+all-ids : (s : Store) → IsInOrder s → IsStrictlySortedBy (slice_cmp nat_cmp) (keys_of s.keys.entries) → All (λ e. id_for_key e.0 s.keys.entries ≡ Some e.1) s.keys.entries
     → AreIdsOf (db_view_of s).ids (keys_in_order (db_view_of s).keys) (map (λ e. e.1) s.keys.entries)
 all-ids s store sorted found =
     let es = s.keys.entries in
     let nodes = all-there s.nodes es es store.stored found in
     subst (λ (l : List (Entry StoredSeries)). AreIdsOf (db_view_of s).ids (map (λ e. e.key) l) (map (λ e. e.1) es)) (sym (listing-entries s.nodes es sorted nodes))
     (listed s.nodes (db_view_of s).ids es nodes (all-found (db_view_of s).ids es es (λ key. get-ids key es) found))
+
+-- so a list of them all is one of the keys in order
+pub ids-of : {V E : Type 0} (s : Store) → IsInOrder s → IsStrictlySortedBy (slice_cmp nat_cmp) (keys_of s.keys.entries) → All (λ e. id_for_key e.0 s.keys.entries ≡ Some e.1) s.keys.entries
+    → (items : V → List Id) (r : Result V E) → IfOk r (λ v. items v ≡ map (λ e. e.1) s.keys.entries) → IfOk r (λ v. AreIdsOf (db_view_of s).ids (keys_in_order (db_view_of s).keys) (items v))
+ids-of s store sorted found items (Ok v) e = subst (AreIdsOf (db_view_of s).ids (keys_in_order (db_view_of s).keys)) (sym e) (all-ids s store sorted found)
+ids-of s store sorted found items (Err x) e = e
 
 -- ---- the series and the rules of an id
 

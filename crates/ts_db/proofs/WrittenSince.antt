@@ -1,12 +1,12 @@
 -- The highest time of the samples that were written since a rule was created, and the open bucket that it allows.
-use Rattle.std.proofs.Common.{◌≡◌, ℕ, ◌+◌, ◌-◌, ◌^◌, ◌<◌, ◌≤◌, Bool, true, false, cond, ◌==◌, nat_le, if◌then◌else◌, ◌&&◌, List, [], ◌∷◌, length, refl, sym, ap, ◌∙◌, subst, arith, le-leb}
+use Rattle.std.proofs.Common.{◌≡◌, ℕ, ◌+◌, ◌-◌, ◌^◌, ◌<◌, ◌≤◌, Bool, true, false, cond, ◌==◌, nat_le, if◌then◌else◌, List, [], ◌∷◌, length, refl, sym, ap, ◌∙◌, subst, arith}
 use Rattle.std.specs.Prelude.{max, Option, None, Some}
 use Rattle.std.proofs.lemmas.Bool.Decides.{nat_tests}
 use Rattle.std.specs.Option.{unwrap_or}
 use Rattle.ts_spec.specs.Aggregate.{Summary, nothing, summary}
 use Rattle.ts_spec.specs.Bucket.{start}
 use Rattle.ts_spec.specs.Counting.{raised}
-use Rattle.ts_spec.specs.Sample.{Point, MAX_TIME, IsAscending, at, at_times, is_within, between}
+use Rattle.ts_spec.specs.Sample.{Point, MAX_TIME, IsAscending, at, is_within, between}
 use Rattle.ts_spec.specs.StoredSeries.{StoredRule}
 use Rattle.ts_spec.specs.Valid.{Every, IsUpTo}
 use Rattle.ts_spec.proofs.Aggregates.{summary-count}
@@ -19,7 +19,7 @@ use Rattle.ts_restore.proofs.RestoringSeries.{all-times}
 use Rattle.ts_sample.specs.Visit.{visited}
 use Rattle.ts_series.specs.History.{History, list_of}
 use Rattle.ts_db.specs.declared.restorable.WrittenSince.{WrittenSince}
-use Rattle.ts_db.specs.Restorable.{top_with, top_since, since_with}
+use Rattle.ts_db.specs.Restorable.{top_since, since_with}
 use Rattle.ts_db.specs.Store.{stored_series}
 
 -- ---- each sample of an ascending list
@@ -144,3 +144,32 @@ top-from q b counted ps e =
     ap (λ (n : ℕ). top_since q.made (Some n) ps) e
     ∙ top-some q.made b (b + (q.running.count - 1)) ps (omega arith)
     ∙ ap (λ (n : ℕ). Some n) (top-is q b ps)
+
+module _ (h : History) (q : StoredRule) (short : IsShortSummary q.running) where
+  -- without an open bucket
+  pub unwritten-to : top_since q.made None (list_of h) ≡ None → q.running.count ≡ 0 → IsUnwritten (stored_series [] h) q
+  unwritten-to e none = record { running = zero-nothing q.running short.some none; list = none-every q.made (list_of h) e }
+
+  pub unwritten-none : IsAscending (list_of h) → IsUnwritten (stored_series [] h) q → top_since q.made None (list_of h) ≡ None
+  unwritten-none up x = every-none q.made (list_of h) up x.list
+
+  pub unwritten-zero : IsUnwritten (stored_series [] h) q → q.running.count ≡ 0
+  unwritten-zero x = ap (λ (s : Summary). s.count) x.running
+
+  -- with one
+  module _ (b top high : ℕ) (is : Some top ≡ Some (top_at q b (list_of h))) (high_is : Some high ≡ h.high) where
+    top-same : top ≡ top_at q b (list_of h)
+    top-same = cc is
+
+    pub bucket-at : top ≤ high → start q.grid top ≡ b → IsBucketAt (stored_series [] h) q b
+    bucket-at l e = record {
+      running = short.some;
+      same = ap (start q.grid) (sym top-same) ∙ e;
+      high = subst (λ (o : Option ℕ). IsUpTo o (top_at q b (list_of h))) high_is (subst (λ n. n ≤ high) top-same l);
+    }
+
+    pub bucket-start : IsBucketAt (stored_series [] h) q b → start q.grid top ≡ b
+    bucket-start x = ap (start q.grid) top-same ∙ x.same
+
+    pub bucket-high : IsBucketAt (stored_series [] h) q b → top ≤ high
+    bucket-high x = subst (λ n. n ≤ high) (sym top-same) (subst (λ (o : Option ℕ). IsUpTo o (top_at q b (list_of h))) (sym high_is) x.high)

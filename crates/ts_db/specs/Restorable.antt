@@ -5,7 +5,7 @@ use Rattle.std.specs.declared.alloc.AllocError.{AllocError}
 use Rattle.ts_spec.specs.declared.limits.Limits.{Limits}
 use Rattle.ts_spec.specs.Counting.{raised}
 use Rattle.ts_spec.specs.Sample.{Point}
-use Rattle.ts_spec.specs.StoredSeries.{StoredRule, StoredKeys}
+use Rattle.ts_spec.specs.StoredSeries.{StoredKeys}
 use Rattle.ts_restore.specs.Restorable.{IsBucket}
 use Rattle.ts_series.specs.History.{History}
 use Rattle.ts_rules.specs.declared.rule.Rule.{Rule}

@@ -8,6 +8,7 @@ ghost use Rattle.ts_spec.specs.Sample.{MAX_TIME};
 ghost use Rattle.ts_restore.specs.Restorable.{IsBucketAt};
 ghost use Rattle.ts_restore.specs.Summaries.{IsShortSummary};
 ghost use Rattle.ts_sample.specs.Steps.{Takes};
+ghost use Rattle.ts_bucket.specs.Grid.{IsGrid};
 ghost use Rattle.ts_series.specs.History.{list_of, reach};
 ghost use Rattle.ts_rules.specs.Rules.{stored_rule_for};
 ghost use Rattle.ts_db.specs.Restoring.{part_of_rule};
@@ -57,7 +58,9 @@ impl RestoredRule {
         requires { ForSome self.current (λ b. b ≤ MAX_TIME) }
         ensures leads { result.dest ≡ dest }
         ensures rule { (k : Key) → stored_rule_for k result ≡ (part_of_rule [] k self).rule }
+        ensures grid { IsGrid self.grid }
     {
+        self.grid.known();
         Rule {
             dest,
             agg: self.agg,
@@ -126,6 +129,7 @@ fn has_bucket<L: Ledger>(series: &Series, rule: &RestoredRule, steps: &mut Steps
 {
     match rule.current {
         None => {
+            series.known();
             let top = top_since(series, rule.made, None, steps);
             top.is_none() && rule.running.parts().count == 0
         }

@@ -67,12 +67,16 @@ impl Store {
             (part_of_series key.now labels.now series.now) }
         ensures steps { Takes steps.old steps.new (reach series.now) }
     {
-        let len = series.len(steps);
-        !self.has(key)
-            && !self.is_full()
-            && !self.are_too_many(labels)
-            && series.born() <= self.limits.born
-            && len <= self.limits.samples as usize
+        if self.has(key) {
+            return false;
+        }
+        if self.is_full() {
+            return false;
+        }
+        if self.are_too_many(labels) {
+            return false;
+        }
+        series.born() <= self.limits.born && series.len(steps) <= self.limits.samples as usize
     }
 
     // Adds a rule between two keys if it is valid. Returns whether it is.

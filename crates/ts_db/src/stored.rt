@@ -1,13 +1,17 @@
 // What a checkpoint says of the database: all ids in key order, and the series and the rules of each.
 ghost use Rattle.std.specs.Prelude.{◌≡◌, Some, IfOk, map};
+ghost use Rattle.std.specs.Cmp.Lexicographic.{slice_cmp};
 ghost use Rattle.std.specs.List.{All};
+ghost use Rattle.std.specs.List.Sorted.{IsStrictlySortedBy};
+ghost use Rattle.std.specs.Map.{keys_of};
+ghost use Rattle.std.specs.Ordering.{nat_cmp};
 ghost use Rattle.ts_spec.specs.Key.{Key};
 ghost use Rattle.ts_spec.specs.Keyed.{get};
 ghost use Rattle.ts_spec.specs.Represents.{AllHaveDurations};
 ghost use Rattle.ts_series.specs.History.{IsKept};
 ghost use Rattle.ts_db.specs.DbState.{AreIdsOf, IsLive};
 ghost use Rattle.ts_db.specs.Restoring.{keys_in_order, StoresSeries, StoresRules};
-ghost use Rattle.ts_db.specs.Store.{IsInOrder};
+ghost use Rattle.ts_db.specs.Store.{id_for_key};
 
 use crate::db::Db;
 use crate::store::Store;
@@ -32,7 +36,7 @@ impl Db {
         ensures stored { (key : Key) → get key self.now.ids ≡ Some id → StoresSeries self.now key result.now }
         ensures kept { IsKept result.now }
     {
-        &self.node(id).series
+        &self.store.nodes.node(id).series
     }
 
     /// The rules of series `id`, in order of creation. Allocates nothing.
@@ -41,18 +45,20 @@ impl Db {
         ensures stored { (key : Key) → get key self.now.ids ≡ Some id → StoresRules self.now key result.now }
         ensures live { All (λ r. IsLive self.now.ids r.dest) result.now }
     {
-        &self.node(id).rules
+        &self.store.nodes.node(id).rules
     }
 }
 
 impl Store {
-    // The ids of all series, in key order.
+    // The ids of all series, in key order. The contract also tells callers that the keys are sorted.
     fn ids(&self) -> Result<Vec<Id>, AllocError>
-        requires { IsInOrder self.now }
-        ensures { IfOk result (λ ids. ids.items ≡ map (λ e. e.1) self.now.keys.entries) }
+        ensures ids { IfOk result (λ ids. ids.items ≡ map (λ e. e.1) self.now.keys.entries) }
+        ensures sorted { IsStrictlySortedBy (slice_cmp nat_cmp) (keys_of self.now.keys.entries) }
+        ensures found { All (λ e. id_for_key e.0 self.now.keys.entries ≡ Some e.1) self.now.keys.entries }
     {
+        let keys = self.keys.iter();
         let mut ids = Vec::with_capacity(self.alloc, self.keys.len())?;
-        for (_key, id) in self.keys.iter() {
+        for (_key, id) in keys {
             ids.push(*id)?;
         }
         Ok(ids)

@@ -1,5 +1,4 @@
-use Rattle.std.proofs.Common.{◌^◌, ◌-◌, ◌≤◌, length, sym, ◌∙◌, ap, arith}
-use Rattle.std.specs.Option.{unwrap_or}
+use Rattle.std.proofs.Common.{◌^◌, ◌-◌, ◌≤◌, length, ◌∙◌, ap, arith}
 use Rattle.ts_spec.specs.Sample.{is_within, between}
 use Rattle.ts_series.specs.History.{list_of}
 use Rattle.ts_series.proofs.Counting.{times-length}
