@@ -33,7 +33,7 @@ some-long : (names : Id → Key) (rs : List Rule) → HaveGrids rs → HaveDurat
 some-long names [] g = tt
 some-long names (r ∷ rs) g = (g.0.some, some-long names rs g.1)
 
-durations : (s : Store) → IsInOrder s → AllHaveDurations (db_view_of s).keys
+pub durations : (s : Store) → IsInOrder s → AllHaveDurations (db_view_of s).keys
 durations s store k d is =
     let of : IsOf s.nodes d = node-of s.nodes s.keys.entries k d is in
     subst (λ (c : StoredSeries). HaveDurations c.rules) (sym of.same) (some-long (key_in s.nodes) of.node.rules.items (store.each of.number of.node of.there).grids)

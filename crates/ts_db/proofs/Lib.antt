@@ -55,3 +55,9 @@ pub mod Choosing
 pub mod Covering
 pub mod Lent
 pub mod SelectionsAtWork
+pub mod WrittenSince
+pub mod NewSeries
+pub mod PushedRules
+pub mod RuleBetween
+pub mod RestoredLaw
+pub mod StoredParts

@@ -126,15 +126,15 @@ module _ (s : Store) (store : IsInOrder s) (dest : Id) (to : HasNode s.nodes des
 
 -- ---- with one more rule
 
-live-more : (nodes : Nodes) (rs : List Rule) (r : Rule) → AreLive nodes rs → HasNode nodes r.dest → AreLive nodes (rs ++ r ∷ [])
+pub live-more : (nodes : Nodes) (rs : List Rule) (r : Rule) → AreLive nodes rs → HasNode nodes r.dest → AreLive nodes (rs ++ r ∷ [])
 live-more nodes [] r live here = (here, tt)
 live-more nodes (q ∷ rs) r live here = (live.0, live-more nodes rs r live.1 here)
 
-grids-more : (rs : List Rule) (r : Rule) → HaveGrids rs → IsGrid r.grid → HaveGrids (rs ++ r ∷ [])
+pub grids-more : (rs : List Rule) (r : Rule) → HaveGrids rs → IsGrid r.grid → HaveGrids (rs ++ r ∷ [])
 grids-more [] r g here = (here, tt)
 grids-more (q ∷ rs) r g here = (g.0, grids-more rs r g.1 here)
 
-rules-more : (names : Id → Key) (rs : List Rule) (r : Rule) → rules_by names (rs ++ r ∷ []) ≡ rules_by names rs ++ stored_rule_for (names r.dest) r ∷ []
+pub rules-more : (names : Id → Key) (rs : List Rule) (r : Rule) → rules_by names (rs ++ r ∷ []) ≡ rules_by names rs ++ stored_rule_for (names r.dest) r ∷ []
 rules-more names [] r = refl
 rules-more names (q ∷ rs) r = ap (λ (qs : List StoredRule). stored_rule_for (names q.dest) q ∷ qs) (rules-more names rs r)
 

@@ -14,6 +14,8 @@ pub mod Links
 pub mod KeyOrder
 pub mod Planning
 pub mod PutBy
+pub mod Restorable
+pub mod Restoring
 pub mod RowMerger
 pub mod Store
 pub mod Totals

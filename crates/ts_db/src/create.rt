@@ -45,7 +45,12 @@ impl Store {
     }
 
     // Stores a series with its labels under a new key.
-    fn insert(&mut self, key: Word, series: Series, labels: Labels) -> Result<(), DbFault>
+    pub(crate) fn insert(
+        &mut self,
+        key: Word,
+        series: Series,
+        labels: Labels,
+    ) -> Result<(), DbFault>
         requires store { IsInOrder self.old }
         requires absent { get key (db_view_of self.old).keys ≡ None }
         requires room { count_keys (db_view_of self.old).keys < self.old.limits.keys }

@@ -7,6 +7,7 @@ ghost use Rattle.ts_spec.specs.Key.{Key};
 ghost use Rattle.ts_series.specs.History.{IsKept};
 ghost use Rattle.ts_rules.specs.Rules.{stored_rule_for};
 ghost use Rattle.ts_db.specs.Linking.{has_rule_to, HasOneMoreRule, HasRules, IsRuleConflict};
+ghost use Rattle.ts_db.specs.Restorable.{PushesRule};
 
 use crate::fault::DbFault;
 use std::alloc::{AllocError, Global};
@@ -61,6 +62,14 @@ impl Node {
         let made = self.series.born() + 1;
         self.rules.push_reserved(begun(dest, agg, grid, made));
         self.series.raise_born();
+        Ok(())
+    }
+
+    // Adds a rule that is already counted among the rules made so far.
+    pub(crate) fn push_rule(&mut self, rule: Rule) -> Result<(), AllocError>
+        ensures { PushesRule rule result self.old self.new }
+    {
+        self.rules.push(rule)?;
         Ok(())
     }
 

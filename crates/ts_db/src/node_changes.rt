@@ -8,6 +8,7 @@ ghost use Rattle.ts_db.specs.declared.node.Node.{Node as TheNode};
 ghost use Rattle.ts_db.specs.OpenAppend.{CanCountOneMore};
 ghost use Rattle.ts_db.specs.Linking.{HasRules};
 ghost use Rattle.ts_db.specs.NodeChanges.{HasNodeWhere, IsNodeChanged, IsAfter, IsOpenAppended, AddsRule};
+ghost use Rattle.ts_db.specs.Restorable.{PushesRule};
 
 use crate::nodes::Nodes;
 use crate::open_append::count_in_all;
@@ -73,6 +74,15 @@ impl Nodes {
     {
         let node = &mut self.slab[id.0];
         node.add_rule(dest, agg, grid)
+    }
+
+    // Adds a rule that is already counted among the rules made so far.
+    pub(crate) fn push_rule(&mut self, id: Id, rule: Rule) -> Result<(), AllocError>
+        requires { slab.ContainsKey self.old id.0 }
+        ensures { IsNodeChanged self.old self.new id (PushesRule rule result) }
+    {
+        let node = &mut self.slab[id.0];
+        node.push_rule(rule)
     }
 
     // Deletes the rule to `dest`.

@@ -30,8 +30,9 @@ pub record AppendsPrefix (old new : Option (List ℕ)) (bytes : List ℕ) : Type
   pub within : len ≤ length bytes
   pub added : new ≡ append_known old (take len bytes)
 
--- the state of a log in memory: its content, the read position, and the calls
+-- the state of a log in memory: its content, the draft if there is one, the read position, and the calls
 pub record MemLogState : Type 0 where
   pub content : List ℕ
+  pub draft : Option (List ℕ)
   pub place : ℕ
   pub calls : Calls

@@ -5,42 +5,28 @@ ghost use Rattle.ts_io.specs.Adapters.{failed_log_calls_of, last_log_cause_of, l
 ghost use Rattle.ts_io.specs.Causes.{HasCause, saturating_succ};
 ghost use Rattle.ts_io.specs.Logs.{ReadAdvances};
 
-use crate::journal_file::{cut_and_sync, open_locked};
-use crate::system::{checked, noted, read_retried, write_retried};
+use crate::log_files::LogFiles;
+use crate::system::{checked, noted};
 use crate::{Cause, Failed, Log};
 use std::fs::File;
-use std::io;
-use std::io::{ErrorKind, Read};
-use std::os::unix::fs::FileExt;
 use std::rt::Files;
 
 /// A log over a file, which counts its errors. Its content is unknown to the proofs.
 ///
 /// The file stays locked while it is open, so no other program with such a log can append to it. It is closed when
 /// another file is opened or the log is dropped.
+///
+/// A draft is a file beside it, locked too. If the log is NAME, or a link to NAME, the draft is NAME.folding.
 #[derive(Drop)]
 pub struct FileLog<R> {
     rt: R,
-    file: Option<File>,
+    files: LogFiles,
     place: u64,
     faults: u64,
     last_cause: Option<Cause>,
 }
 
-// A file that is read from this position.
-#[derive(Drop)]
-struct FileAt<'a> {
-    file: &'a File,
-    place: u64,
-}
-
-impl Read for FileAt<'_> {
-    fn read(&mut self, buf: &mut [u8]) -> io::Result<usize> {
-        self.file.read_at(buf, self.place)
-    }
-}
-
-impl<R: Files<File = File>> FileLog<R> {
+impl<R: Files<File = File> + AllocGlobal> FileLog<R> {
     /// Creates a log without an open file.
     pub fn new(rt: R) -> Self
         ensures place { log_position_of result ≡ 0 }
@@ -49,55 +35,18 @@ impl<R: Files<File = File>> FileLog<R> {
     {
         FileLog {
             rt,
-            file: None,
+            files: LogFiles::none(),
             place: 0,
             faults: 0,
             last_cause: None,
         }
     }
-
-    // The open file.
-    fn file(&self) -> io::Result<&File> {
-        match &self.file {
-            Some(file) => Ok(file),
-            None => Err(io::Error::from(ErrorKind::NotConnected)),
-        }
-    }
-
-    fn read_once(&self, buf: &mut [u8]) -> io::Result<usize>
-        ensures { ReadsAtMost result buf.new }
-    {
-        let mut file = FileAt {
-            file: self.file()?,
-            place: self.place,
-        };
-        read_retried(&mut file, buf, false)
-    }
-
-    fn cut_file(&self, len: u64) -> io::Result<()> {
-        let mut file = self.file()?;
-        cut_and_sync(&mut file, len)
-    }
-
-    fn sync_once(&self) -> io::Result<()> {
-        self.file()?.sync_data()
-    }
-
-    // Writes once. Writing no byte is an error.
-    fn write_once(&self, bytes: &[u8]) -> io::Result<usize>
-        ensures bound { WritesAtMost result bytes.now }
-        ensures progress { 0 < length bytes.now → IfOk result (λ n. 0 < n) }
-    {
-        let mut file = self.file()?;
-        match write_retried(&mut file, bytes) {
-            Ok(0) if !bytes.is_empty() => Err(io::Error::from(ErrorKind::WriteZero)),
-            outcome => outcome,
-        }
-    }
 }
 
-impl<R: Files<File = File>> Log for FileLog<R> {
+impl<R: Files<File = File> + AllocGlobal> Log for FileLog<R> {
     ghost content = { λ _. None };
+
+    ghost drafted = { λ _. None };
 
     ghost place = { log_position_of };
 
@@ -105,18 +54,17 @@ impl<R: Files<File = File>> Log for FileLog<R> {
 
     ghost last_cause = { last_log_cause_of };
 
-    /// Opens and locks the file, creating it if it does not exist. The file that was open is closed first. A new file's
-    /// name is synced in its folder. Fails without changing the file if another log has it open, if it is not a regular
-    /// file, or if the name no longer leads to it.
+    /// Opens and locks the file, creating it if it does not exist. The file that was open is closed first. The folder is
+    /// synced, so that a new name outlives a power failure. Fails without changing the file if another log has it open,
+    /// if it is not a regular file, or if the name no longer leads to it.
     fn open(&mut self, name: &str) -> Result<(), Failed>
         ensures start { OnOk result (log_position_of self.new ≡ 0) }
         ensures failed { OnErr result (log_position_of self.new ≡ log_position_of self.old) }
         ensures cause { HasCause (failed_log_calls_of self.old) (failed_log_calls_of self.new) result }
         ensures err { OnErr result (failed_log_calls_of self.new ≡ saturating_succ (failed_log_calls_of self.old)) }
     {
-        self.file = None;
-        let outcome = noted(open_locked(&self.rt, name), &mut self.last_cause);
-        self.file = Some(checked(outcome, &mut self.faults)?);
+        let outcome = noted(self.files.open(&self.rt, name), &mut self.last_cause);
+        checked(outcome, &mut self.faults)?;
         self.place = 0;
         Ok(())
     }
@@ -128,7 +76,7 @@ impl<R: Files<File = File>> Log for FileLog<R> {
         ensures cause { HasCause (failed_log_calls_of self.old) (failed_log_calls_of self.new) result }
         ensures err { OnErr result (failed_log_calls_of self.new ≡ saturating_succ (failed_log_calls_of self.old)) }
     {
-        let outcome = noted(self.read_once(buf), &mut self.last_cause);
+        let outcome = noted(self.files.read(buf, self.place), &mut self.last_cause);
         let count = checked(outcome, &mut self.faults)?;
         self.place = self.place.saturating_add(count as u64);
         Ok(count)
@@ -142,7 +90,7 @@ impl<R: Files<File = File>> Log for FileLog<R> {
         ensures cause { HasCause (failed_log_calls_of self.old) (failed_log_calls_of self.new) result }
         ensures err { OnErr result (failed_log_calls_of self.new ≡ saturating_succ (failed_log_calls_of self.old)) }
     {
-        let outcome = noted(self.cut_file(len), &mut self.last_cause);
+        let outcome = noted(self.files.cut(len), &mut self.last_cause);
         checked(outcome, &mut self.faults)
     }
 
@@ -154,7 +102,7 @@ impl<R: Files<File = File>> Log for FileLog<R> {
         ensures cause { HasCause (failed_log_calls_of self.old) (failed_log_calls_of self.new) result }
         ensures err { OnErr result (failed_log_calls_of self.new ≡ saturating_succ (failed_log_calls_of self.old)) }
     {
-        let outcome = noted(self.write_once(bytes), &mut self.last_cause);
+        let outcome = noted(self.files.append(bytes), &mut self.last_cause);
         checked(outcome, &mut self.faults)
     }
 
@@ -164,7 +112,44 @@ impl<R: Files<File = File>> Log for FileLog<R> {
         ensures cause { HasCause (failed_log_calls_of self.old) (failed_log_calls_of self.new) result }
         ensures err { OnErr result (failed_log_calls_of self.new ≡ saturating_succ (failed_log_calls_of self.old)) }
     {
-        let outcome = noted(self.sync_once(), &mut self.last_cause);
+        let outcome = noted(self.files.sync(), &mut self.last_cause);
+        checked(outcome, &mut self.faults)
+    }
+
+    /// Fails if no file is open, if its name no longer leads to it, or if another log has the draft's file open.
+    fn draft(&mut self) -> Result<(), Failed>
+        ensures place { log_position_of self.new ≡ log_position_of self.old }
+        ensures cause { HasCause (failed_log_calls_of self.old) (failed_log_calls_of self.new) result }
+        ensures err { OnErr result (failed_log_calls_of self.new ≡ saturating_succ (failed_log_calls_of self.old)) }
+    {
+        let outcome = noted(self.files.begin_draft(&self.rt), &mut self.last_cause);
+        checked(outcome, &mut self.faults)
+    }
+
+    /// Makes one write call. If it fails, the draft is removed.
+    fn write_draft(&mut self, bytes: &[u8]) -> Result<usize, Failed>
+        ensures bound { WritesAtMost result bytes.now }
+        ensures progress { 0 < length bytes.now → IfOk result (λ n. 0 < n) }
+        ensures place { log_position_of self.new ≡ log_position_of self.old }
+        ensures cause { HasCause (failed_log_calls_of self.old) (failed_log_calls_of self.new) result }
+        ensures err { OnErr result (failed_log_calls_of self.new ≡ saturating_succ (failed_log_calls_of self.old)) }
+    {
+        let outcome = noted(
+            self.files.write_draft(&self.rt, bytes),
+            &mut self.last_cause,
+        );
+        checked(outcome, &mut self.faults)
+    }
+
+    /// Syncs the draft, renames it to the name of the open file, and syncs the folder. If the first two succeed and the
+    /// last fails, the call fails although the draft has taken the file's place. If the first two fail, the draft is
+    /// removed.
+    fn publish(&mut self) -> Result<(), Failed>
+        ensures place { log_position_of self.new ≡ log_position_of self.old }
+        ensures cause { HasCause (failed_log_calls_of self.old) (failed_log_calls_of self.new) result }
+        ensures err { OnErr result (failed_log_calls_of self.new ≡ saturating_succ (failed_log_calls_of self.old)) }
+    {
+        let outcome = noted(self.files.publish(&self.rt), &mut self.last_cause);
         checked(outcome, &mut self.faults)
     }
 

@@ -1,7 +1,9 @@
 // The file of a log: one program at a time may hold it, and it is cut and synced.
-ghost use Rattle.std.specs.Prelude.{◌≡◌, pos, int_le, ⊤, ℕ, min, Option, None, IfOk, IfSome, OnOk};
+ghost use Rattle.std.specs.Prelude.{◌≡◌, ◌<◌, pos, int_le, ⊤, ℕ, length, min, Option, None, IfOk, IfSome, OnOk};
+ghost use Rattle.std.specs.Io.{WritesAtMost};
 ghost use Rattle.std.specs.Option.{option_map};
 
+use crate::system::write_retried;
 use std::fs::{File, Metadata, OpenOptions};
 use std::io::ErrorKind;
 use std::os::fd::{AsRawFd, RawFd};
@@ -17,22 +19,38 @@ pub(crate) fn open_locked<R: Files<File = File>>(rt: &R, name: &str) -> io::Resu
         .append(true)
         .create(true)
         .open(rt, name)?;
+    let (file, opened) = lock_regular(file)?;
+
+    // The lock is on the file and not on its name. Between the two calls above, the log that had the file open may have
+    // replaced it and closed it. A change appended to the old file would be lost.
+    check_is(fs::metadata(rt, name), &opened)?;
+    sync_name(rt, name, file.metadata()?.len() == 0)?;
+    Ok(file)
+}
+
+// Syncs the folder of an opened file, since a run that was killed may have given it its name without that. An older file
+// may lie in a folder that this user can't read.
+fn sync_name<R: Files<File = File>>(rt: &R, name: &str, is_new: bool) -> io::Result<()> {
+    match sync_folder(rt, name) {
+        Err(error) if !is_new && error.kind() == ErrorKind::PermissionDenied => Ok(()),
+        outcome => outcome,
+    }
+}
+
+/// Locks a file that was just opened. Fails if it is not a regular file, or if another program holds its lock.
+pub(crate) fn lock_regular(file: File) -> io::Result<(File, Metadata)> {
     let file = above_standard_streams(file)?;
     let opened = file.metadata()?;
     if !opened.is_file() {
         return Err(io::Error::from(ErrorKind::NotSeekable));
     }
     file.try_lock()?;
-    check_name(rt, name, &opened)?;
-    if file.metadata()?.len() == 0 {
-        sync_name(rt, name)?;
-    }
-    Ok(file)
+    Ok((file, opened))
 }
 
-// Fails unless the name still leads to the opened file: before it was locked, another program may have replaced it.
-fn check_name<R: Files<File = File>>(rt: &R, name: &str, opened: &Metadata) -> io::Result<()> {
-    let is_same = match fs::metadata(rt, name) {
+/// Fails unless what a name leads to is the opened file. Otherwise another program has replaced or removed it.
+pub(crate) fn check_is(named: io::Result<Metadata>, opened: &Metadata) -> io::Result<()> {
+    let is_same = match named {
         Ok(named) => named.dev() == opened.dev() && named.ino() == opened.ino(),
         Err(error) if error.kind() == ErrorKind::NotFound => false,
         Err(error) => return Err(error),
@@ -43,13 +61,24 @@ fn check_name<R: Files<File = File>>(rt: &R, name: &str, opened: &Metadata) -> i
     Err(io::Error::from(ErrorKind::StaleNetworkFileHandle))
 }
 
-// Syncs the folder of a new file, so that its name outlives a power failure.
-fn sync_name<R: Files<File = File>>(rt: &R, name: &str) -> io::Result<()> {
+/// Syncs the folder of a file, so that a new name outlives a power failure.
+pub(crate) fn sync_folder<R: Files<File = File>>(rt: &R, name: &str) -> io::Result<()> {
     let folder = match Path::new(name).parent() {
         Some(folder) if !folder.as_str().is_empty() => folder.as_str(),
         _ => ".",
     };
     File::open(rt, folder)?.sync_all()
+}
+
+/// Writes once. Writing no byte is an error.
+pub(crate) fn write_some(mut file: &File, bytes: &[u8]) -> io::Result<usize>
+    ensures bound { WritesAtMost result bytes.now }
+    ensures progress { 0 < length bytes.now → IfOk result (λ n. 0 < n) }
+{
+    match write_retried(&mut file, bytes) {
+        Ok(0) if !bytes.is_empty() => Err(io::Error::from(ErrorKind::WriteZero)),
+        outcome => outcome,
+    }
 }
 
 // Duplicates the file if its descriptor is that of a standard stream. If such a stream was closed, the system gives its

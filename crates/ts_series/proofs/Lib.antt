@@ -43,3 +43,5 @@ pub mod Seams
 pub mod ShareEnds
 pub mod SeamedWalks
 pub mod SeamsAround
+pub mod Restoring
+pub mod Formats

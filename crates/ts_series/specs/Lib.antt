@@ -7,4 +7,6 @@ pub mod Mend
 pub mod Plan
 pub mod Put
 pub mod Reading
+pub mod Recoded
+pub mod Restoring
 pub mod Seams

@@ -111,7 +111,7 @@ impl<C: Chunk> Chunks<C> {
     }
 
     // The number of chunks.
-    fn chunk_count(&self) -> usize
+    pub(crate) fn chunk_count(&self) -> usize
         ensures { result ≡ length self.now.pieces }
     {
         self.chunks.len()

@@ -3,7 +3,7 @@ use Rattle.ts_io.proofs.Adding.{adds_none, adds_on, adds_all}
 use Rattle.ts_io.proofs.log.append_all_counted.Goals as goal
 
 pub loop-written-init : goal.loop-written-init
-loop-written-init g c = record { within = omega arith; fine = refl; place = refl; added = adds_none _ }
+loop-written-init g c = record { within = omega arith; fine = refl; place = refl; draft = refl; added = adds_none _ }
 
 pub loop-written-preserved : goal.loop-written-preserved
 loop-written-preserved g c =
@@ -12,6 +12,7 @@ loop-written-preserved g c =
       within = within;
       fine = c.in_ok-written.ensures.cause.fine ∙ c.loop-written.invariant.fine;
       place = c.in_ok-written.ensures.place ∙ c.loop-written.invariant.place;
+      draft = c.in_ok-written.ensures.draft ∙ c.loop-written.invariant.draft;
       added = adds_on _ _ _ _ _ _ c.loop-written.invariant.added within c.in_ok-written.ensures.bytes;
     }
 

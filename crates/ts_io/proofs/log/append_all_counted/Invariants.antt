@@ -7,6 +7,7 @@ invariant-loop-written g l = record {
   within : l.written ≤ length l.bytes;
   fine : g.J.Log.faults l.log ≡ g.J.Log.faults l.initial.log;
   place : g.J.Log.place l.log ≡ g.J.Log.place l.initial.log;
+  draft : g.J.Log.drafted l.log ≡ g.J.Log.drafted l.initial.log;
   added : g.J.Log.content l.log ≡ append_known (g.J.Log.content l.initial.log) (take l.written l.bytes);
 }
 

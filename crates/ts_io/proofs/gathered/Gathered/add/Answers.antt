@@ -1,6 +1,5 @@
-use Rattle.std.proofs.Common.{◌≡◌, ◌++◌, Option, List, ℕ, sym, ◌∙◌, ap}
+use Rattle.std.proofs.Common.{List, ℕ, sym, ◌∙◌, ap}
 use Rattle.std.specs.Io.KnownBytes.{append_known}
-use Rattle.ts_io.specs.Gathering.{pending_of}
 use Rattle.ts_io.proofs.Adding.{adds_none, adds_after, all_as_prefix}
 use Rattle.ts_io.proofs.gathered.Gathered.add.Goals as goal
 

@@ -1,7 +1,7 @@
 use Rattle.std.proofs.Common.{◌≡◌, ◌+◌, ◌-◌, ◌^◌, ◌≤◌, min, List, ℕ, length, take, drop, sym, ◌∙◌, ap, arith}
 use Rattle.ts_io.specs.Logs.{MemLogState}
 use Rattle.ts_io.proofs.Reading.{read_from, read_none, read_on}
-use Rattle.ts_io.proofs.mem_log.MemLogLog.read.Goals as goal
+use Rattle.ts_io.proofs.mem_log.calls.MemLogLog.read.Goals as goal
 
 pub returns-clause-bytes : goal.returns-clause-bytes
 returns-clause-bytes c =
