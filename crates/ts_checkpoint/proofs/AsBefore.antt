@@ -6,13 +6,13 @@ use Rattle.ts_spec.specs.Command.{Command}
 use Rattle.ts_spec.specs.Grammar.{command}
 use Rattle.ts_spec.specs.Refusal.{Fault}
 use Rattle.ts_spec.specs.State.{State, empty}
-use Rattle.ts_spec.specs.Wire.{Request, Stream, Then, Ended, Inside, Broken, Start, stream_at}
+use Rattle.ts_spec.specs.Wire.{Stream, Then, Ended, Inside, Broken, Start, stream_at}
 use Rattle.ts_journal.specs.Limits.{journal_limits}
 use Rattle.ts_journal.specs.Loading as changes
 use Rattle.ts_journal.specs.Loading.{Loads, apply_recorded_request, load_on, unless_foreign}
 use Rattle.ts_journal.proofs.Loads as changes_loads
 use Rattle.ts_journal.proofs.Loads.{loads-next}
-use Rattle.ts_checkpoint.specs.Fronts.{offset_behind, size_behind, front_size, checkpoint_size}
+use Rattle.ts_checkpoint.specs.Fronts.{size_behind, front_size, checkpoint_size}
 use Rattle.ts_checkpoint.specs.Loading.{parts_said, load}
 use Rattle.ts_checkpoint.specs.PartOf.{part_of}
 use Rattle.ts_checkpoint.proofs.Heads.{command-no_head}

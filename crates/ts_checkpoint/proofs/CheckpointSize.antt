@@ -1,5 +1,5 @@
 -- Where the checkpoint at the front of a journal ends.
-use Rattle.std.proofs.Common.{◌≡◌, ℕ, zero, suc, ◌+◌, ◌<◌, ◌≤◌, List, [], ◌∷◌, length, take, drop, refl, sym, ap, ◌∙◌, subst, take-append-drop, arith}
+use Rattle.std.proofs.Common.{◌≡◌, ℕ, zero, suc, ◌+◌, ◌<◌, ◌≤◌, List, [], ◌∷◌, length, take, drop, refl, ap, ◌∙◌, subst, take-append-drop, arith}
 use Rattle.std.proofs.lemmas.List.{length-take}
 use Rattle.std.specs.Prelude.{⊤, Option, None, Some}
 use Rattle.ts_spec.specs.declared.limits.Limits.{Limits}
@@ -12,7 +12,7 @@ use Rattle.ts_journal.proofs.Loads.{loads-next}
 use Rattle.ts_checkpoint.specs.Fronts.{offset_behind, size_behind, front_size, checkpoint_size}
 use Rattle.ts_checkpoint.specs.Loading.{OpenSeries, Restoring, restoring, load_behind, restore_on, parts_said, load_first, load_start, load}
 use Rattle.ts_checkpoint.specs.PartOf.{part_of}
-use Rattle.ts_checkpoint.proofs.JournalLoads.{requests_load, requests-of, requests-within}
+use Rattle.ts_checkpoint.proofs.JournalLoads.{requests-of, requests-within}
 use Rattle.ts_checkpoint.proofs.Offsets.{IsFrontAt, front-at}
 use Rattle.ts_checkpoint.proofs.RestoreOn.{parts-next}
 

@@ -7,7 +7,6 @@ use Rattle.std.specs.Fmt.{decimal}
 use Rattle.std.specs.Char.{to_ascii_lowercase}
 use Rattle.std.specs.Str.{bytes_eq, str_eq_ignore_ascii_case, str_to_ascii_lowercase}
 use Rattle.ts_spec.specs.Aggregate.{Summary}
-use Rattle.ts_spec.specs.Bucket.{Grid}
 use Rattle.ts_spec.specs.Command.{Command, Create, CreateRule}
 use Rattle.ts_spec.specs.Grammar.{command, commands, by_form}
 use Rattle.ts_spec.specs.Key.{same}

@@ -1,16 +1,16 @@
 -- The prefixes of a journal that loads.
-use Rattle.std.proofs.Common.{◌≡◌, ℕ, ◌+◌, ◌-◌, ◌<◌, ◌≤◌, ◌⊎◌, true, List, length, take, drop, inl, inr, refl, sym, ap, ◌∙◌, subst, take-append-drop, arith}
+use Rattle.std.proofs.Common.{◌≡◌, ℕ, ◌-◌, ◌<◌, ◌≤◌, ◌⊎◌, true, List, length, take, drop, inl, inr, refl, sym, ap, ◌∙◌, subst, take-append-drop, arith}
 use Rattle.std.proofs.lemmas.List.{take_all, take-take, drop-take, length-take, length-take-le}
 use Rattle.ts_spec.specs.declared.limits.Limits.{Limits}
 use Rattle.ts_spec.specs.declared.wire.WireLimits.{WireLimits}
 use Rattle.ts_spec.specs.State.{State, empty}
-use Rattle.ts_spec.specs.Wire.{Stream, Start, stream_at}
+use Rattle.ts_spec.specs.Wire.{Start, stream_at}
 use Rattle.ts_journal.specs.Limits.{journal_limits}
 use Rattle.ts_journal.specs.Loading.{Loads, BreaksAt, begins_as_record, unless_foreign}
 use Rattle.ts_journal.proofs.FrontsLoad.{front-begins}
 use Rattle.ts_journal.proofs.Rests.{by-rest}
-use Rattle.ts_checkpoint.specs.Loading.{load_start, load, HasOnlyRecords}
-use Rattle.ts_checkpoint.specs.Fronts.{front_size, checkpoint_size, FrontLoadsTo, FrontLoads}
+use Rattle.ts_checkpoint.specs.Loading.{load, HasOnlyRecords}
+use Rattle.ts_checkpoint.specs.Fronts.{checkpoint_size, FrontLoadsTo, FrontLoads}
 use Rattle.ts_checkpoint.proofs.Offsets.{IsFrontAt, offsets, front-at}
 use Rattle.ts_checkpoint.proofs.LoadStart.{FrontStarts, front-starts}
 use Rattle.ts_checkpoint.proofs.JournalLoads.{requests_load, requests-of, requests-within, whole-on}

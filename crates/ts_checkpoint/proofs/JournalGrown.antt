@@ -12,14 +12,14 @@ use Rattle.ts_spec.specs.Refusal.{Fault}
 use Rattle.ts_spec.specs.StreamPrefixes.{IsWithin}
 use Rattle.ts_spec.specs.State.{State}
 use Rattle.ts_spec.specs.Text.{Reply}
-use Rattle.ts_spec.specs.Wire.{Request, Stream, Inside, stream_at}
+use Rattle.ts_spec.specs.Wire.{Request, Inside, stream_at}
 use Rattle.ts_journal.specs.Limits.{IsBounded, journal_limits}
 use Rattle.ts_journal.specs.Loading.{Loads, apply_recorded_request, begins_as_record, continue_or_break, load_on}
 use Rattle.ts_journal.specs.Record.{accepted, record_words, record_of}
 use Rattle.ts_journal.specs.RecordReplay.{IsRecorded}
 use Rattle.ts_journal.proofs.Almost.{torn-inside}
 use Rattle.ts_journal.proofs.Fitting.{record-fits}
-use Rattle.ts_journal.proofs.Grown.{record-apply_recorded, record-encoded, record-begins, request-alone}
+use Rattle.ts_journal.proofs.Grown.{record-apply_recorded, record-encoded, request-alone}
 use Rattle.ts_journal.proofs.Replays.{some-words}
 use Rattle.ts_journal.proofs.Rests.{by-rest, loads-alone, no-rest, rest-before, rest-among}
 use Rattle.ts_checkpoint.specs.Loading.{parts_said, load, LoadsTo, HasOnlyRecords}

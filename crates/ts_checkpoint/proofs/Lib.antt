@@ -29,3 +29,4 @@ pub mod RestoredParts
 pub mod RestoredRequests
 pub mod DamagedRecords
 pub mod DamagedBytes
+mod CheckpointsAtWork

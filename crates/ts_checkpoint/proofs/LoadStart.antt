@@ -1,11 +1,11 @@
 -- What a stream loads to from its start.
-use Rattle.std.proofs.Common.{◌≡◌, ℕ, suc, ◌<◌, refl, sym, ap, ◌∙◌, subst}
+use Rattle.std.proofs.Common.{◌≡◌, ℕ, ◌<◌, refl, sym, ap, ◌∙◌, subst}
 use Rattle.std.specs.Prelude.{◌⊎◌, Option, None, Some}
 use Rattle.ts_spec.specs.declared.limits.Limits.{Limits}
 use Rattle.ts_spec.specs.StreamPrefixes.{continued_by}
 use Rattle.ts_spec.specs.State.{State}
 use Rattle.ts_spec.specs.Wire.{Request, Stream, Then, Ended, Inside, Broken, ending_of}
-use Rattle.ts_journal.specs.Loading.{Load, Loads, BreaksAt, load_on}
+use Rattle.ts_journal.specs.Loading.{Loads, BreaksAt, load_on}
 use Rattle.ts_journal.proofs.FrontsLoad.{finished-loads}
 use Rattle.ts_journal.proofs.Loads.{loads-end, loads-continued_by}
 use Rattle.ts_journal.proofs.Unfinished.{finished}

@@ -1,7 +1,7 @@
 -- Each chunk of a stored series can follow those before it.
 use Rattle.std.proofs.Common.{◌≡◌, ◌≢◌, ℕ, ◌≤◌, nat_le, true, List, [], ◌∷◌, ◌++◌, map, refl, sym, ap, ◌∙◌, subst, append_assoc}
 use Rattle.std.proofs.lemmas.Bool.{le-leb}
-use Rattle.std.specs.Prelude.{Option, Some}
+use Rattle.std.specs.Prelude.{Some}
 use Rattle.ts_spec.specs.declared.series.Encoding.{Encoding}
 use Rattle.ts_spec.specs.declared.series.Encoding.TheVariants.{Compressed, Uncompressed}
 use Rattle.ts_spec.specs.Sample.{Point, IsAscending, at, at_times, last_of}
@@ -11,7 +11,6 @@ use Rattle.ts_sample.specs.Chunk.{joined}
 use Rattle.ts_sample.proofs.Lists.{ascending-left}
 use Rattle.ts_restore.specs.Restorable.{IsSampleOf}
 use Rattle.ts_checkpoint.specs.Checks.{FitsEncoding, shown_of, CanFollow}
-use Rattle.ts_checkpoint.specs.Parts.{SeriesHead}
 use Rattle.ts_checkpoint.specs.Restoring.{Chunk, ChunkedSeries, shown_samples, shown_series, head_of, IsStoredChunk, AreStoredChunks, IsTrimmed, HasStoredChunks}
 use Rattle.ts_checkpoint.proofs.StoredSamples.{at-right, at-left, at-passing, passing-at, last-at, last-from, last-right, times-left}
 

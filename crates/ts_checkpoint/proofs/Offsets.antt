@@ -1,5 +1,5 @@
 -- The offsets of a stream rise, and a prefix of its bytes has all requests that end within them.
-use Rattle.std.proofs.Common.{◌≡◌, ℕ, suc, ◌+◌, ◌<◌, ◌≤◌, List, [], ◌∷◌, ◌++◌, length, refl, ap, subst, arith}
+use Rattle.std.proofs.Common.{◌≡◌, ℕ, ◌+◌, ◌<◌, ◌≤◌, List, [], ◌∷◌, ◌++◌, length, refl, arith}
 use Rattle.std.specs.Prelude.{⊤}
 use Rattle.ts_spec.specs.declared.wire.WireLimits.{WireLimits}
 use Rattle.ts_spec.specs.Wire.{Request, Stream, Then, Ended, Inside, Broken, Mode, Start, Move, Goto, Whole, Fault, move, at_end, after_move, then_request, read_on}

@@ -1,6 +1,6 @@
 -- The records of a checkpoint restore what was stored.
-use Rattle.std.proofs.Common.{◌≡◌, List, [], ◌∷◌, ◌++◌, length, map, flat_map, Some, refl, sym, ◌∙◌, ap, subst}
-use Rattle.std.specs.Prelude.{Option, All}
+use Rattle.std.proofs.Common.{◌≡◌, List, [], ◌∷◌, map, Some, sym, ◌∙◌, ap, subst}
+use Rattle.std.specs.Prelude.{All}
 use Rattle.ts_spec.specs.declared.limits.Limits.{Limits}
 use Rattle.ts_spec.specs.Encoded.{encoded, Fits}
 use Rattle.ts_spec.specs.Keyed.{none}
@@ -16,9 +16,8 @@ use Rattle.ts_restore.specs.Restorable.{IsCheckpoint}
 use Rattle.ts_restore.specs.Restored.{keys_with_all_series, with_all_series, state_of}
 use Rattle.ts_restore.proofs.Restoring.{represents-checkpoint}
 use Rattle.ts_checkpoint.specs.Loading.{restoring, LoadsTo, HasOnlyRecords, RestoresStored}
-use Rattle.ts_checkpoint.specs.Parts.{Part, Head, Rule}
-use Rattle.ts_checkpoint.specs.PartWords.{part_words}
-use Rattle.ts_checkpoint.specs.Restoring.{ChunkedSeries, shown_series, series_parts, parts_behind, all_parts, checkpoint_from, HaveStoredChunks, AreSayable, IsWritten}
+use Rattle.ts_checkpoint.specs.Parts.{Part, Rule}
+use Rattle.ts_checkpoint.specs.Restoring.{ChunkedSeries, shown_series, parts_behind, all_parts, checkpoint_from, HaveStoredChunks, AreSayable, IsWritten}
 use Rattle.ts_checkpoint.proofs.CommandsBack.{RecordsRead}
 use Rattle.ts_checkpoint.proofs.ReadBack.{reads-back}
 use Rattle.ts_checkpoint.proofs.RestoredParts.{AreExact, restore_all, all-series-taken, all-rules-taken}

@@ -1,5 +1,5 @@
 -- The parts of a checkpoint restore, one after another.
-use Rattle.std.proofs.Common.{◌≡◌, ◌≢◌, ℕ, ◌==◌, suc, ◌+◌, Bool, true, false, if◌then◌else◌, List, [], ◌∷◌, ◌++◌, length, map, flat_map, refl, sym, ap, ◌∙◌, subst, append_assoc, append-nil, length-append, arith}
+use Rattle.std.proofs.Common.{◌≡◌, ◌≢◌, ℕ, Bool, true, if◌then◌else◌, List, [], ◌∷◌, ◌++◌, length, map, flat_map, refl, sym, ap, ◌∙◌, subst, append_assoc, append-nil, length-append, arith}
 use Rattle.std.proofs.lemmas.Bool.{eq-eqb, ne_eqb}
 use Rattle.std.specs.Prelude.{Option, Some, None}
 use Rattle.ts_spec.specs.declared.limits.Limits.{Limits}
@@ -10,12 +10,12 @@ use Rattle.ts_spec.specs.StoredSeries.{StoredKeys, kept}
 use Rattle.ts_chunk_packed.specs.Packed.{packed}
 use Rattle.ts_restore.specs.Checkpoint.{SeriesPart, RulePart}
 use Rattle.ts_restore.specs.Restorable.{IsNewSeries, IsNewRule, AreNewSeries, AreNewRules}
-use Rattle.ts_restore.specs.Restored.{keys_with_series, keys_with_all_series, keys_with_rule, with_series, with_restored_rule, with_all_series, with_all_rules}
+use Rattle.ts_restore.specs.Restored.{keys_with_series, keys_with_rule, with_series, with_restored_rule, with_all_series, with_all_rules}
 use Rattle.ts_restore.proofs.RestoringRules.{represents-rule}
 use Rattle.ts_restore.proofs.RestoringSeries.{represents-series}
 use Rattle.ts_checkpoint.specs.Checks.{is_new_series, is_new_rule, can_follow, CanFollow}
 use Rattle.ts_checkpoint.specs.Loading.{OpenSeries, Restoring, restoring, series_so_far, with_whole, with_open, with_chunk, with_samples, with_rule, restore_part}
-use Rattle.ts_checkpoint.specs.Parts.{SeriesHead, Part, Series, Samples, Rule}
+use Rattle.ts_checkpoint.specs.Parts.{SeriesHead, Part, Rule}
 use Rattle.ts_checkpoint.specs.Restoring.{Chunk, ChunkedSeries, shown_series, chunk_part, head_of, series_parts, HasStoredChunks, HaveStoredChunks}
 use Rattle.ts_checkpoint.specs.Unpacked.{unpacked}
 use Rattle.ts_checkpoint.proofs.NextChunks.{follows}

@@ -132,7 +132,7 @@ module _ (limits : Limits) (b : IsBounded limits.wire) where
         ∙ more on ended
 
     request-begins : ending_of (stream_at within at (take place (first ++ encoded requests))) ≡ Ended → begins_as_record (drop place (first ++ encoded requests)) ≡ true
-    request-begins e = elim (below-or-not place (length first)) [ | inl less ↦ inside-first place refl less e | inr past ↦ behind-first past e ]
+    request-begins e = elim (below-or-not place (length first)) [ inl less ↦ inside-first place refl less e | inr past ↦ behind-first past e ]
 
   ended-begins : (requests : List Request) → All (Fits within) requests → (place at : ℕ) → ending_of (stream_at within at (take place (encoded requests))) ≡ Ended
       → begins_as_record (drop place (encoded requests)) ≡ true
