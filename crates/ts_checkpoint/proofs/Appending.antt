@@ -1,5 +1,5 @@
 -- How words are appended, one after another.
-use Rattle.std.proofs.Common.{◌≡◌, List, [], ◌∷◌, ◌++◌, sym, ◌∙◌, ap, append_assoc, append-nil}
+use Rattle.std.proofs.Common.{◌≡◌, [], ◌++◌, sym, ◌∙◌, ap, append_assoc, append-nil}
 use Rattle.ts_spec.specs.Wire.{Request}
 use Rattle.ts_checkpoint.specs.Records.{Appends}
 

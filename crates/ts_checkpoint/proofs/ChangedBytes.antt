@@ -1,11 +1,11 @@
 -- A record with one changed byte is refused.
-use Rattle.std.proofs.Common.{◌≡◌, ◌≢◌, ℕ, ◌%◌, ◌+◌, ◌*◌, ◌<◌, ◌^◌, Bool, true, false, if◌then◌else◌, List, [], ◌∷◌, ◌++◌, Some, refl, sym, ◌∙◌, ap, arith}
+use Rattle.std.proofs.Common.{◌≡◌, ◌≢◌, ℕ, ◌<◌, Bool, true, false, if◌then◌else◌, List, [], ◌∷◌, ◌++◌, Some, refl, sym, ◌∙◌, ap, arith}
 use Rattle.std.proofs.lemmas.Slice.Eq.{bytes_eq-Decides}
-use Rattle.std.specs.Prelude.{fold, Option, None}
+use Rattle.std.specs.Prelude.{fold, None}
 use Rattle.std.specs.Fmt.{decimal}
 use Rattle.std.specs.Str.{bytes_eq}
 use Rattle.ts_spec.specs.Wire.{Request}
-use Rattle.ts_restore.specs.CheckNumber.{MODULUS, WORD_END, check_symbol, check_word, check_number}
+use Rattle.ts_restore.specs.CheckNumber.{MODULUS, check_word, check_number}
 use Rattle.ts_restore.proofs.CheckNumbers.{changed_byte}
 use Rattle.ts_checkpoint.specs.Numbers.{whole}
 use Rattle.ts_checkpoint.specs.Parts.{Part}

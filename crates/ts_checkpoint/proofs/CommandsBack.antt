@@ -1,8 +1,8 @@
 -- The commands in the records of series and rules read back.
-use Rattle.std.proofs.Common.{◌≡◌, ◌≢◌, ℕ, ◌<◌, ◌≤◌, ◌^◌, nat_le, nat_lt, true, false, if◌then◌else◌, List, [], ◌∷◌, length, codes, refl, ◌∙◌, ap, arith}
+use Rattle.std.proofs.Common.{◌≡◌, ◌≢◌, ℕ, ◌≤◌, ◌^◌, nat_lt, false, [], length, refl, arith}
 use Rattle.std.proofs.lemmas.Bool.{le-leb}
 use Rattle.std.proofs.lemmas.Bool.Decides.{nat_tests}
-use Rattle.std.specs.Prelude.{Some, Ok, Result}
+use Rattle.std.specs.Prelude.{Ok}
 use Rattle.std.specs.Fmt.{decimal}
 use Rattle.ts_spec.specs.declared.bucket.Aggregator.{Aggregator}
 use Rattle.ts_spec.specs.declared.bucket.Aggregator.TheVariants as agg
@@ -18,7 +18,7 @@ use Rattle.ts_spec.specs.Replies.{aggregator_name, reply_to}
 use Rattle.ts_spec.specs.ResolvedCommands.{resolved}
 use Rattle.ts_spec.specs.Response.{Response, Done}
 use Rattle.ts_spec.specs.Sample.{MAX_TIME}
-use Rattle.ts_spec.specs.Settings.{Word, time_word}
+use Rattle.ts_spec.specs.Settings.{time_word}
 use Rattle.ts_spec.specs.State.{State, empty}
 use Rattle.ts_spec.specs.Step.{step}
 use Rattle.ts_spec.specs.Text.{Reply}

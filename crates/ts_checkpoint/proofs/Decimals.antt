@@ -1,6 +1,6 @@
 -- Numbers in decimal parse as these numbers.
 use Rattle.std.proofs.Common.{◌≡◌, ℕ, zero, suc, ◌+◌, ◌*◌, ◌/◌, ◌%◌, ◌^◌, ◌<◌, ◌≤◌, ◌==◌, ◌&&◌, nat_le, Bool, true, false, if◌then◌else◌, List, [], ◌∷◌, length, Some, refl, sym, ◌∙◌, ap, arith}
-use Rattle.std.proofs.lemmas.Bool.{le-leb, leb-true, lt-ltb, eq-eqb, eqb-true, ne_eqb, and_parts}
+use Rattle.std.proofs.lemmas.Bool.{le-leb, leb-true, lt-ltb, eqb-true, ne_eqb, and_parts}
 use Rattle.std.proofs.lemmas.Fmt.{length-decimal-le, length-decimal-le_wide, decimal_nonempty}
 use Rattle.std.specs.Prelude.{fold, ℤ, pos, negsuc, neg_ℤ, unsigned_abs, option_map}
 use Rattle.std.specs.List.{list_all}
@@ -11,7 +11,7 @@ use Rattle.ts_spec.specs.Sample.{MAX_TIME}
 use Rattle.ts_spec.specs.Value.{bound, shown_value}
 use Rattle.ts_spec.specs.Wire.{is_digit, digit_of}
 use Rattle.ts_decimal.proofs.ReadBack.{value_of_shown}
-use Rattle.ts_checkpoint.specs.Numbers.{if_read, whole, between, number_in, time_or_none, time_word, integer, valid_value, value_in}
+use Rattle.ts_checkpoint.specs.Numbers.{whole, number_in, time_or_none, time_word, integer, valid_value, value_in}
 
 -- a number continued by a digit
 abbrev next : ℕ → ℕ → ℕ

@@ -1,33 +1,25 @@
 -- The tests of the parts of a checkpoint are exact.
-use Rattle.std.proofs.Common.{◌≡◌, ◌≢◌, ℕ, ◌*◌, ◌<◌, ◌≤◌, ◌^◌, ◌==◌, ◌&&◌, ◌||◌, nat_lt, nat_le, not, Bool, true, false, List, [], ◌∷◌, ◌++◌, map, length, Some, refl, sym, ap, ◌∙◌, inl, inr}
-use Rattle.std.proofs.lemmas.Bool.Decides.{Decides-and, Decides-or, Decides-like, Decides-ltb, Decides-eqb, Decides-int_eq}
+use Rattle.std.proofs.Common.{◌≡◌, ℕ, ◌<◌, nat_lt, List, [], ◌∷◌, length, Some, refl, ap}
+use Rattle.std.proofs.lemmas.Bool.Decides.{Decides-and, Decides-like, Decides-ltb, Decides-eqb, Decides-int_eq}
 use Rattle.std.specs.Bool.{Decides}
 use Rattle.std.specs.List.{list_all}
-use Rattle.std.specs.Ordering.{int_eq}
-use Rattle.std.specs.Prelude.{Option, None, is_none, unsigned_abs}
+use Rattle.std.specs.Prelude.{Option, None}
 use Rattle.ts_spec.specs.declared.limits.Limits.{Limits}
-use Rattle.ts_spec.specs.declared.series.Encoding.{Encoding}
-use Rattle.ts_spec.specs.declared.series.Encoding.TheVariants.{Compressed, Uncompressed}
 use Rattle.ts_spec.specs.Aggregate.{Summary, nothing, summary}
 use Rattle.ts_spec.specs.Bucket.{start}
 use Rattle.ts_spec.specs.Key.{same}
 use Rattle.ts_spec.specs.Keyed.{get, count_keys}
-use Rattle.ts_spec.specs.Sample.{Point, MAX_TIME, last_of}
+use Rattle.ts_spec.specs.Sample.{Point}
 use Rattle.ts_spec.specs.State.{edge_of}
 use Rattle.ts_spec.specs.StoredSeries.{StoredRule, StoredSeries, StoredKeys}
-use Rattle.ts_spec.specs.Valid.{IsUpTo}
-use Rattle.ts_spec.specs.Value.{bound}
-use Rattle.ts_sample.specs.Chunk.{IsChunk, AreInBounds, least_limit, greatest_limit, joined}
-use Rattle.ts_sample.specs.Sample.{IsInBounds}
-use Rattle.ts_chunk_packed.specs.Packed.{packed}
 use Rattle.ts_restore.specs.Checkpoint.{SeriesPart, RulePart}
 use Rattle.ts_restore.specs.Laid.{laid}
-use Rattle.ts_restore.specs.Restorable.{IsSampleOf, IsSeries, IsNewSeries, IsBucketAt, IsUnwritten, IsBucket, IsRule, AreMadeBefore, IsNewRule}
+use Rattle.ts_restore.specs.Restorable.{IsSampleOf, IsSeries, IsNewSeries, IsBucket, IsRule, AreMadeBefore, IsNewRule}
 use Rattle.ts_restore.specs.Restored.{top_at}
 use Rattle.ts_restore.specs.Summaries.{IsSummary, values_of}
 use Rattle.ts_restore.proofs.Laid.{summary-laid, some-exact}
-use Rattle.ts_checkpoint.specs.Checks.{is_empty, is_some_and, if_some, every, is_ascending, is_up_to, is_sample_of, is_series, is_new_series, same_summary, is_summary, is_bucket_at, is_unwritten, is_bucket, is_rule, can_have_rule, can_be_destination, is_new_rule, FitsEncoding, shown_of, CanFollow, is_in_bounds, is_packed_chunk, fits_encoding, can_follow}
-use Rattle.ts_checkpoint.proofs.Deciding.{Decides-le, Decides-false, Decides-none, Decides-empty, Decides-some, HasSome, Decides-some_and, Decides-if_some, Decides-up_to, Decides-ascending, Decides-every}
+use Rattle.ts_checkpoint.specs.Checks.{is_sample_of, is_series, is_new_series, same_summary, is_summary, is_bucket_at, is_unwritten, is_bucket, is_rule, can_have_rule, can_be_destination, is_new_rule}
+use Rattle.ts_checkpoint.proofs.Deciding.{Decides-le, Decides-false, Decides-none, Decides-empty, Decides-some_and, Decides-up_to, Decides-ascending, Decides-every}
 
 -- ---- a series
 

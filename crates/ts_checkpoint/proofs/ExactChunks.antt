@@ -1,5 +1,5 @@
 -- The test of the next chunk of a series is exact.
-use Rattle.std.proofs.Common.{◌≡◌, ◌≢◌, ℕ, ◌*◌, ◌<◌, ◌≤◌, ◌^◌, ◌&&◌, ◌||◌, nat_lt, nat_le, not, Bool, true, List, [], ◌∷◌, ◌++◌, map, length, Some, refl, inl, inr}
+use Rattle.std.proofs.Common.{◌≡◌, ◌≢◌, ℕ, ◌*◌, ◌≤◌, ◌^◌, ◌||◌, nat_le, not, List, [], ◌∷◌, ◌++◌, map, length, refl, inl, inr}
 use Rattle.std.proofs.lemmas.Bool.Decides.{Decides-and, Decides-or, Decides-like, Decides-ltb}
 use Rattle.std.specs.Bool.{Decides}
 use Rattle.std.specs.List.{list_all}
@@ -12,10 +12,10 @@ use Rattle.ts_spec.specs.Value.{bound}
 use Rattle.ts_sample.specs.Chunk.{IsChunk, AreInBounds, least_limit, greatest_limit, joined}
 use Rattle.ts_sample.specs.Sample.{IsInBounds}
 use Rattle.ts_chunk_packed.specs.Packed.{packed}
-use Rattle.ts_checkpoint.specs.Checks.{is_empty, if_some, every, is_ascending, is_up_to, FitsEncoding, shown_of, CanFollow, is_in_bounds, is_packed_chunk, fits_encoding, can_follow}
+use Rattle.ts_checkpoint.specs.Checks.{is_empty, is_up_to, FitsEncoding, shown_of, CanFollow, is_in_bounds, is_packed_chunk, fits_encoding, can_follow}
 use Rattle.ts_checkpoint.specs.Parts.{SeriesHead}
 use Rattle.ts_checkpoint.specs.Restoring.{Chunk}
-use Rattle.ts_checkpoint.proofs.Deciding.{Decides-le, Decides-empty, Decides-some, Decides-if_some, Decides-up_to, Decides-ascending, Decides-every}
+use Rattle.ts_checkpoint.proofs.Deciding.{Decides-le, Decides-some, Decides-if_some, Decides-up_to, Decides-ascending, Decides-every}
 
 bounds-exact : (p : Point) → Decides (is_in_bounds p) (IsInBounds p)
 bounds-exact p =

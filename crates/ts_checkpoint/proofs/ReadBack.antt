@@ -1,14 +1,12 @@
 -- Parts read back from their words.
-use Rattle.std.proofs.Common.{◌≡◌, ℕ, ◌<◌, ◌≤◌, ◌^◌, ◌||◌, ◌==◌, ◌&&◌, nat_le, Bool, true, false, if◌then◌else◌, List, [], ◌∷◌, ◌++◌, length, codes, Some, refl, ◌∙◌, ap, arith}
-use Rattle.std.proofs.lemmas.Bool.{le-leb, eq-eqb, eqb-true}
-use Rattle.std.specs.Prelude.{Option, None, Ok, Result, not}
+use Rattle.std.proofs.Common.{◌≡◌, ℕ, ◌≤◌, ◌&&◌, true, false, if◌then◌else◌, List, [], ◌∷◌, ◌++◌, length, codes, Some, refl, ◌∙◌, ap, arith}
+use Rattle.std.proofs.lemmas.Bool.{le-leb, eq-eqb}
+use Rattle.std.specs.Prelude.{Option, None, Ok, not}
 use Rattle.std.specs.Fmt.{decimal}
 use Rattle.std.specs.Str.{bytes_eq}
 use Rattle.ts_spec.specs.Aggregate.{Summary}
-use Rattle.ts_spec.specs.Command.{Command, Create, CreateRule}
+use Rattle.ts_spec.specs.Command.{Create, CreateRule}
 use Rattle.ts_spec.specs.Grammar.{command}
-use Rattle.ts_spec.specs.Key.{same}
-use Rattle.ts_spec.specs.Refusal.{Fault}
 use Rattle.ts_spec.specs.Sample.{MAX_TIME}
 use Rattle.ts_spec.specs.Wire.{Request}
 use Rattle.ts_sample.specs.Chunk.{least_limit, greatest_limit}
@@ -17,7 +15,7 @@ use Rattle.ts_restore.specs.CheckNumber.{check_number}
 use Rattle.ts_restore.specs.Checkpoint.{RulePart}
 use Rattle.ts_checkpoint.specs.Numbers.{if_read, time_or_none, time_word}
 use Rattle.ts_checkpoint.specs.Parts.{SeriesHead, Piece, Part, Head, Series, Samples, Rule}
-use Rattle.ts_checkpoint.specs.PartOf.{MOST_RULES, head_part, series_part, piece_part, summary_in, rule_numbers, rule_part, unchecked_part, part_of, created_series, created_rule, counts_nowhere, fitting_samples}
+use Rattle.ts_checkpoint.specs.PartOf.{MOST_RULES, head_part, series_part, piece_part, summary_in, rule_numbers, rule_part, unchecked_part, part_of, counts_nowhere}
 use Rattle.ts_checkpoint.specs.PartWords.{checked, unchecked_words, part_words, summary_words}
 use Rattle.ts_checkpoint.specs.Sayable.{IsTimeIfAny, IsSayableSeries, IsSayablePiece, IsSayableSummary, IsSayableRule, IsSayable}
 use Rattle.ts_checkpoint.proofs.CommandsBack.{RecordsRead, create-read, create_rule-read}

@@ -7,13 +7,13 @@ use Rattle.ts_spec.specs.State.{State}
 use Rattle.ts_spec.specs.StoredSeries.{kept}
 use Rattle.ts_spec.specs.Valid.{IsValid}
 use Rattle.ts_spec.specs.Wire.{Request}
-use Rattle.ts_restore.specs.Checkpoint.{SeriesPart, Checkpoint, checkpoint_of}
+use Rattle.ts_restore.specs.Checkpoint.{SeriesPart, checkpoint_of}
 use Rattle.ts_restore.specs.Restorable.{IsCheckpoint}
 use Rattle.ts_restore.specs.Restored.{state_of}
 use Rattle.ts_checkpoint.specs.Parts.{Part}
 use Rattle.ts_checkpoint.specs.PartOf.{part_of}
 use Rattle.ts_checkpoint.specs.PartWords.{part_words}
-use Rattle.ts_checkpoint.specs.Restoring.{ChunkedSeries, all_parts, checkpoint_from, RestoresTo, AreSayable, IsWritten, RestoresStored}
+use Rattle.ts_checkpoint.specs.Restoring.{all_parts, checkpoint_from, AreSayable, IsWritten, RestoresStored}
 use Rattle.ts_checkpoint.proofs.CommandsBack.{RecordsRead}
 use Rattle.ts_checkpoint.proofs.ReadBack.{reads-back}
 

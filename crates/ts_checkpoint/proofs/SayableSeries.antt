@@ -1,6 +1,6 @@
 -- Series that words can say.
 use Rattle.std.proofs.Common.{◌≡◌, List, [], ℕ, ap, ◌∙◌, subst}
-use Rattle.std.specs.Prelude.{Option, None, Ok}
+use Rattle.std.specs.Prelude.{Option, None}
 use Rattle.ts_spec.specs.Command.{Create}
 use Rattle.ts_spec.specs.Grammar.{command}
 use Rattle.ts_spec.specs.Wire.{Request}

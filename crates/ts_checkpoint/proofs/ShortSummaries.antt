@@ -1,16 +1,15 @@
 -- A rule counts no more samples than its bucket lasts milliseconds.
-use Rattle.std.proofs.Common.{◌≡◌, ℕ, ◌+◌, ◌-◌, ◌<◌, ◌≤◌, ◌^◌, [], Some, refl, sym, ap, subst, arith}
-use Rattle.std.specs.Prelude.{Option, None, max}
+use Rattle.std.proofs.Common.{ℕ, ◌+◌, ◌<◌, ◌≤◌, [], Some, refl, sym, subst, arith}
+use Rattle.std.specs.Prelude.{Option, None}
 use Rattle.ts_spec.specs.declared.limits.Limits.{Limits}
-use Rattle.ts_spec.specs.Aggregate.{Summary}
 use Rattle.ts_spec.specs.Bucket.{Grid, start}
 use Rattle.ts_spec.specs.StoredSeries.{StoredRule, StoredSeries, StoredKeys}
 use Rattle.ts_bucket.specs.Grid.{IsGrid}
 use Rattle.ts_bucket.proofs.Numbers.{start_number, passed}
 use Rattle.ts_restore.specs.Checkpoint.{RulePart}
 use Rattle.ts_restore.specs.Restorable.{IsBucket, IsNewRule}
-use Rattle.ts_restore.specs.Restored.{top_at, last_since}
-use Rattle.ts_restore.specs.Summaries.{MOST, IsShortSummary}
+use Rattle.ts_restore.specs.Restored.{top_at}
+use Rattle.ts_restore.specs.Summaries.{IsShortSummary}
 
 -- a time is less than a duration past the start of its bucket
 near-start : (g : Grid) (t : ℕ) → 1 ≤ g.duration → t < start g t + g.duration

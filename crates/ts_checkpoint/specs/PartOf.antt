@@ -1,5 +1,5 @@
 -- How the words of a record parse. A record that is damaged or has a number out of range says nothing.
-use Rattle.std.specs.Prelude.{ℕ, ◌^◌, ◌-◌, Bool, true, false, not, ◌&&◌, ◌||◌, ◌==◌, nat_le, if◌then◌else◌, List, [], ◌∷◌, length, drop, codes, Option, None, Some, Result, Ok, Err}
+use Rattle.std.specs.Prelude.{ℕ, ◌^◌, ◌-◌, Bool, false, not, ◌&&◌, ◌||◌, ◌==◌, nat_le, if◌then◌else◌, List, [], ◌∷◌, length, drop, codes, Option, None, Some, Result, Ok}
 use Rattle.std.specs.Fmt.{decimal}
 use Rattle.std.specs.Str.{bytes_eq}
 use Rattle.ts_spec.specs.Aggregate.{Summary}
@@ -7,13 +7,11 @@ use Rattle.ts_spec.specs.Command.{Command, Create, CreateRule}
 use Rattle.ts_spec.specs.Grammar.{command}
 use Rattle.ts_spec.specs.Key.{same}
 use Rattle.ts_spec.specs.Refusal.{Fault}
-use Rattle.ts_spec.specs.Sample.{MAX_TIME}
 use Rattle.ts_spec.specs.Wire.{Request}
 use Rattle.ts_sample.specs.Chunk.{least_limit, greatest_limit}
 use Rattle.ts_restore.specs.CheckNumber.{check_number}
-use Rattle.ts_restore.specs.Checkpoint.{RulePart}
 use Rattle.ts_checkpoint.specs.Numbers.{if_read, number_in, time_in, time_or_none, integer, value_in}
-use Rattle.ts_checkpoint.specs.Parts.{SeriesHead, Piece, Part, Head, Series, Samples, Rule}
+use Rattle.ts_checkpoint.specs.Parts.{Part, Head, Series, Samples, Rule}
 
 -- the greatest number of rules and of pieces that a record can say
 abbrev pub MOST_RULES : ℕ

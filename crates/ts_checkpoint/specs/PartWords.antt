@@ -1,5 +1,5 @@
 -- The words of a record: its name, a check number, what it says, and for series and rules the command that makes one.
-use Rattle.std.specs.Prelude.{List, [], ◌∷◌, ◌++◌, codes}
+use Rattle.std.specs.Prelude.{[], ◌∷◌, ◌++◌, codes}
 use Rattle.std.specs.Fmt.{decimal, signed_decimal}
 use Rattle.ts_spec.specs.Aggregate.{Summary}
 use Rattle.ts_spec.specs.Command.{Create, CreateRule}
@@ -9,7 +9,7 @@ use Rattle.ts_journal.specs.Record.{record_words}
 use Rattle.ts_restore.specs.CheckNumber.{check_number}
 use Rattle.ts_restore.specs.Checkpoint.{RulePart}
 use Rattle.ts_checkpoint.specs.Numbers.{time_word}
-use Rattle.ts_checkpoint.specs.Parts.{SeriesHead, Piece, Part, Head, Series, Samples, Rule}
+use Rattle.ts_checkpoint.specs.Parts.{SeriesHead, Part, Head, Series, Samples, Rule}
 
 -- the words about a series, before its command
 abbrev pub series_numbers : SeriesHead → Request

@@ -14,7 +14,7 @@ use Rattle.ts_spec.specs.Valid.{IsValid}
 use Rattle.ts_restore.specs.Checkpoint.{SeriesPart, RulePart, Checkpoint, checkpoint_of}
 use Rattle.ts_restore.specs.Restorable.{IsCheckpoint}
 use Rattle.ts_restore.specs.Restored.{state_of}
-use Rattle.ts_checkpoint.specs.Parts.{SeriesHead, Piece, Part, Head, Series, Samples, Rule}
+use Rattle.ts_checkpoint.specs.Parts.{Part, Head, Series, Samples, Rule}
 use Rattle.ts_checkpoint.specs.PartOf.{part_of}
 use Rattle.ts_checkpoint.specs.PartWords.{part_words}
 use Rattle.ts_checkpoint.specs.Sayable.{IsSayable}

@@ -1,7 +1,6 @@
 -- What words can say: the parts that read back from their words.
-use Rattle.std.specs.Prelude.{◌≡◌, ℕ, ◌^◌, ◌≤◌, ◌<◌, ℤ, unsigned_abs, false, ⊤, length, Option, None, Some, IfSome, Ok}
+use Rattle.std.specs.Prelude.{◌≡◌, ℕ, ◌^◌, ◌≤◌, ◌<◌, ℤ, unsigned_abs, false, length, Option, None, IfSome, Ok}
 use Rattle.ts_spec.specs.Aggregate.{Summary}
-use Rattle.ts_spec.specs.Bucket.{Grid}
 use Rattle.ts_spec.specs.Command.{Create}
 use Rattle.ts_spec.specs.Grammar.{command}
 use Rattle.ts_spec.specs.Key.{same}

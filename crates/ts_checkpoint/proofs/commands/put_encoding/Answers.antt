@@ -1,4 +1,4 @@
-use Rattle.std.proofs.Common.{◌≡◌, ℕ, List, [], ◌∷◌, codes, subst}
+use Rattle.std.proofs.Common.{ℕ, List, [], ◌∷◌, codes, subst}
 use Rattle.ts_checkpoint.specs.Records.{Appends}
 use Rattle.std.proofs.lemmas.Result.{on_ok_weaker}
 use Rattle.ts_checkpoint.proofs.Appending.{puts-then}

@@ -1,4 +1,4 @@
-use Rattle.std.proofs.Common.{◌≡◌, Bool, subst, sym}
+use Rattle.std.proofs.Common.{Bool, subst, sym}
 use Rattle.std.specs.Prelude.{◌↔◌, IsTrue}
 use Rattle.ts_spec.specs.Encoded.{Fits}
 use Rattle.ts_checkpoint.proofs.WithinLimits.{fits-both, some-words}
