@@ -43,4 +43,5 @@ ReadsBack wanted (Some s) = IsSayableSeries wanted × (series_of s ≡ wanted)
 -- the key, options and labels of this TS.CREATE, if it is this one
 abbrev pub IsCreatedBy : Result Command Fault → Key → Spec → Option (List ℕ × code_spec.Spec) → Type 0
 IsCreatedBy read key wanted None = read ≡ Ok (Create key wanted) → ⊥
-IsCreatedBy read key wanted (Some found) = (read ≡ Ok (Create key wanted)) × (found.0 ≡ key) × (spec_of found.1 ≡ wanted)
+IsCreatedBy read key wanted (Some found) =
+    (read ≡ Ok (Create key wanted)) × (found.0 ≡ key) × (spec_of found.1 ≡ wanted)

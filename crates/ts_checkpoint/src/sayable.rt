@@ -84,7 +84,8 @@ fn created_by(
     options: &Options,
     labels: &Labels,
 ) -> Option<(Word, Spec)>
-    ensures { IsCreatedBy (Ok (command_of command)) key.now (record { options = options.now; labels = labels.now }) result }
+    ensures { IsCreatedBy (Ok (command_of command)) key.now
+        (record { options = options.now; labels = labels.now }) result }
 {
     let Command::Create { key: found, spec } = command else {
         return None;
