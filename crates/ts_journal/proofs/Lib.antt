@@ -1,4 +1,5 @@
 pub mod Accepted
+pub mod AdditionLemmas
 pub mod FixedLemmas
 pub mod Putting
 pub mod Taking

@@ -13,6 +13,7 @@ pieces_of t = pieces t.lens.items (drop 24 t.words.bytes)
 -- the bytes of the record, if the reply has this text and is not an error
 abbrev pub written_by : Content → (reply : List ℕ) → List ℕ
 written_by (content.Fixed out) reply = out.bytes
+written_by (content.Addition text) reply = text.items
 written_by (content.Triples t) reply = accepted_text (accepted_pieces (items_text reply) (pieces_of t))
 
 -- the bytes of the record, if the reply has this text

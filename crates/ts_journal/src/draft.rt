@@ -31,6 +31,13 @@ impl Draft {
         Ok(Draft { out, words: 0 })
     }
 
+    // Reserves capacity for this many more bytes.
+    pub(crate) fn reserve(&mut self, more: usize) -> Result<(), AllocError>
+        ensures { OnOk result (AppendsWords self.old self.new []) }
+    {
+        self.out.reserve(more)
+    }
+
     // Appends an argument.
     pub(crate) fn put(&mut self, word: &[u8]) -> Result<(), AllocError>
         ensures { OnOk result (AppendsWords self.old self.new (word.now ∷ [])) }
@@ -82,13 +89,25 @@ pub(crate) fn write_header_in_gap(words: usize, room: &mut [u8]) -> usize
     ensures start { result ≤ 24 }
     ensures len { length room.new ≡ length room.old }
 {
-    let place = write_ending_at(b"\r\n", GAP, room);
-    let place = write_digits(words as u64, room, place);
-    write_ending_at(b"*", place, room)
+    write_line(b'*', words, GAP, room)
+}
+
+// Writes a type byte, a number and CRLF so that they end at offset `place`, and returns the offset where they start.
+pub(crate) fn write_line(first: u8, number: usize, place: usize, room: &mut [u8]) -> usize
+    requires from { 23 ≤ place }
+    requires to { place ≤ length room.old }
+    ensures text { drop result room.new ≡ line_text first (decimal number) ++ drop place room.old }
+    ensures start { result + (length (decimal number) + 3) ≡ place }
+    ensures bound { place ≤ result + 23 }
+    ensures len { length room.new ≡ length room.old }
+{
+    let place = write_ending_at(b"\r\n", place, room);
+    let place = write_digits(number as u64, room, place);
+    write_ending_at(&[first], place, room)
 }
 
 // Writes bytes that end at offset `place`, and returns the offset where they start.
-fn write_ending_at(bytes: &[u8], place: usize, room: &mut [u8]) -> usize
+pub(crate) fn write_ending_at(bytes: &[u8], place: usize, room: &mut [u8]) -> usize
     requires from { length bytes.now ≤ place }
     requires to { place ≤ length room.old }
     ensures text { drop result room.new ≡ bytes.now ++ drop place room.old }

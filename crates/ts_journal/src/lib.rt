@@ -1,6 +1,7 @@
 //! Records of changes for a journal. Each record is a RESP request that has the same effect whenever it is executed.
 #![tactic(auto)]
 
+mod addition;
 mod changes;
 mod draft;
 mod laws;

@@ -13,10 +13,14 @@ use std::alloc::AllocError;
 use ts_labels::{Change, Labels, Spec};
 use ts_spec::{Encoding, Ignore, Policy};
 
+// How many bytes the options of a new series mostly have, without labels.
+const OPTIONS_ROOM: usize = 192;
+
 // All options of a new series.
 pub(crate) fn draft_spec(draft: &mut Draft, spec: &Spec) -> Result<(), AllocError>
     ensures { OnOk result (AppendsWords draft.old draft.new (spec_words (spec_of spec.now))) }
 {
+    draft.reserve(OPTIONS_ROOM)?;
     let options = &spec.options;
     draft_retention(draft, Some(options.retention))?;
     draft_encoding(draft, options.encoding)?;

@@ -7,6 +7,7 @@ ghost use Rattle.ts_journal.specs.Draft.{AppendsWords};
 ghost use Rattle.ts_journal.specs.Fixed.{is_fixed, fixed_words};
 ghost use Rattle.ts_journal.specs.Limits.{IsBounded, IsRecordWithin, journal_limits};
 
+use crate::addition::addition_text;
 use crate::changes::{
     draft_add, draft_alter, draft_create, draft_create_rule, draft_del_range, draft_delete_rule,
     draft_drop, draft_incr, time_of,
@@ -24,6 +25,8 @@ use ts_spec::WireLimits;
 pub(crate) enum Content {
     // The whole record of a command that succeeds or fails as one.
     Fixed(Out),
+    // The whole record of TS.ADD without options other than ON_DUPLICATE.
+    Addition(Vec<u8>),
     // The arguments of each triple of TS.MADD.
     Triples(Triples),
 }
@@ -77,17 +80,9 @@ impl Record {
     ) -> Result<Record, AllocError>
         ensures { IfOk result (λ record_. IsRecordOf reading (simple_add_of addition.now) (told record_)) }
     {
-        let mut draft = Draft::new(alloc)?;
-        draft_add(
-            &mut draft,
-            addition.key,
-            time_of(addition.at, reading),
-            addition.value,
-            addition.on,
-            &SimpleAdd::spec(alloc),
-        )?;
+        let text = addition_text(alloc, addition, reading)?;
         Ok(Record {
-            held: Content::Fixed(draft.close()),
+            held: Content::Addition(text),
         })
     }
 
@@ -101,6 +96,7 @@ impl Record {
         }
         match &mut self.held {
             Content::Fixed(out) => out.bytes(),
+            Content::Addition(text) => text,
             Content::Triples(triples) => triples.accepted_part(reply),
         }
     }
