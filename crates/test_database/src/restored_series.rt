@@ -181,7 +181,9 @@ fn answers(alloc: Global, encoding: Encoding) -> [Option<bool>; 11] {
         &[],
         &[200, 1, 0],
         &[200, 129, 0, 0, 0],
-        &[200, 255, 255, 255, 255, 255, 255, 255, 255, 255, 255, 1, 0, 0],
+        &[
+            200, 255, 255, 255, 255, 255, 255, 255, 255, 255, 255, 1, 0, 0,
+        ],
         // None from 100 on.
         &THREE,
         // At 100 and 110. The same again, and at 110 alone.
