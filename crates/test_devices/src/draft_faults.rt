@@ -60,7 +60,9 @@ fn a_file_that_was_replaced_before_it_is_locked_is_refused(rt: HostRuntime) -> R
 }
 
 #[test]
-fn a_file_that_was_replaced_before_the_draft_is_published_stays(rt: HostRuntime) -> Result<(), Fail> {
+fn a_file_that_was_replaced_before_the_draft_is_published_stays(
+    rt: HostRuntime,
+) -> Result<(), Fail> {
     let (name, draft) = ("moved.log", "moved.log.folding");
     fs::write(&rt, name, "old")?;
     let mut log = FileLog::new(&rt);

@@ -61,7 +61,11 @@ fn a_draft_takes_the_place_of_a_file(rt: HostRuntime) -> Result<(), Fail> {
     fs::set_permissions(&rt, name, Permissions::from_mode(0o640))?;
 
     // A killed run left this one.
-    fs::write(&rt, "drafted.log.folding", "longer than the old content and the new one")?;
+    fs::write(
+        &rt,
+        "drafted.log.folding",
+        "longer than the old content and the new one",
+    )?;
     let mut log = FileLog::new(&rt);
     assert!(rt; log.draft() == Err(Failed));
     assert!(rt; log.open(name) == Ok(()));
