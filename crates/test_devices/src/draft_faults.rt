@@ -5,8 +5,8 @@ use std::fs;
 use std::test::Fail;
 use ts_io::{Cause, Failed, FileLog, Log, append_all_counted, write_draft_all};
 
-// Each call of the system on names fails in turn: four of `draft`, and four of `publish`. The last one is the sync of the
-// folder, when the draft has taken the file's place. In each case the log goes on with what the name leads to.
+// Each call of the system on names fails in turn: four of `draft`, and four of `publish`. The last one is the sync of
+// the folder, when the draft has taken the file's place. In each case the log goes on with what the name leads to.
 #[test]
 fn a_file_has_its_old_or_its_new_content(rt: HostRuntime) -> Result<(), Fail> {
     let (name, draft) = ("faulty.log", "faulty.log.folding");

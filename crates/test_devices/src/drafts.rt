@@ -88,8 +88,7 @@ fn a_draft_takes_the_place_of_a_file(rt: HostRuntime) -> Result<(), Fail> {
     assert!(rt; append_all_counted(&mut log, b", appended") == Ok(()));
     assert!(rt; log.read(&mut buf) == Ok(4));
     assert!(rt; buf == *b"cont");
-    assert!(rt; log.cut(8) == Ok(()));
-    assert!(rt; fs::read(&rt, name)?.as_slice() == b"new cont".as_slice());
+    assert!(rt; fs::read(&rt, name)?.as_slice() == b"new content, appended".as_slice());
     assert!(rt; log.publish() == Err(Failed));
     drop(log);
     assert!(rt; other.open(name) == Ok(()));
