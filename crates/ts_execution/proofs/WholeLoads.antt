@@ -1,122 +1,102 @@
 -- Loading a whole journal adds up.
-use Rattle.std.specs.Prelude.{Option, None, Some, IfNone, IfSome}
+use Rattle.std.specs.Prelude.{Option, None, Some, IfNone}
 use Rattle.std.specs.Option.{unwrap_or}
 use Rattle.std.specs.Io.KnownBytes.{Consumes, IsAtEnd}
 use Rattle.std.proofs.KnownBytes.{Consumes-nil, Consumes-trans}
-use Rattle.std.proofs.Common.{◌≡◌, ◌<◌, ◌≤◌, ◌⊎◌, inl, inr, ℕ, suc, ◌+◌, ◌-◌, Bool, true, false, if◌then◌else◌, List, [], ◌∷◌, ◌++◌, length, drop, refl, sym, ◌∙◌, ap, subst, append_assoc, append-nil, length-append, arith}
-use Rattle.ts_io.specs.Logs.{unread}
-use Rattle.ts_resp.specs.Reading.{Reading, stream_of, ended_at, fed, unfinished, begun_after, begun_at_end, begun_on, begun_at}
-use Rattle.ts_spec.specs.State.{State}
+use Rattle.std.proofs.Common.{◌≡◌, ◌<◌, ◌≤◌, ◌⊎◌, inl, inr, ℕ, ◌+◌, ◌-◌, Bool, true, false, if◌then◌else◌, List, [], ◌++◌, length, drop, refl, sym, ◌∙◌, ap, subst, append_assoc, append-nil, length-append, arith}
 use Rattle.std.proofs.lemmas.Bool.{le-leb, lt-leb}
-use Rattle.ts_spec.specs.Wire.{Stream, Ended, Inside, ending_of, read_on, Partial, Mode, Start, Text, Count, CountFeed, Mark, Length, LengthFeed, Body, WordReturn, WordFeed, Move, Goto, Whole, Fault, move, stream_at}
+use Rattle.ts_io.specs.Logs.{unread}
+use Rattle.ts_resp.specs.Reading.{stream_of, ended_at, unfinished}
+use Rattle.ts_spec.specs.State.{State}
+use Rattle.ts_spec.specs.Wire.{Stream, Inside, ending_of, read_on, stream_at}
 use Rattle.ts_spec.specs.declared.limits.Limits.{Limits}
 use Rattle.ts_spec.specs.declared.wire.WireLimits.{WireLimits}
 use Rattle.ts_db.specs.DbState.{DbState, DbView, Simulates}
 use Rattle.ts_journal.specs.Limits.{journal_limits}
-use Rattle.ts_journal.specs.Loading.{Loads, BreaksAt, begins_as_record, unless_foreign, load_on}
-use Rattle.ts_journal.proofs.Loads.{loads-end}
+use Rattle.ts_journal.specs.Loading.{Loads, begins_as_record, unless_foreign, load_on}
 use Rattle.ts_journal.proofs.Rests.{by-rest, loads-alone, rest-before, rest-among}
 use Rattle.ts_journal.proofs.Unfinished.{begun-before}
-use Rattle.ts_execution.specs.JournalReplay.{loads_by, loads, HasNoWholeRequest, IsCurrent, LoadsOn, ReplaysPiece, IsLoaded, EndsWithin, still_record, verdict, verdict_at, verdict_by}
+use Rattle.ts_checkpoint.specs.Fronts.{front_size}
+use Rattle.ts_checkpoint.specs.Loading.{load_start}
+use Rattle.ts_execution.specs.JournalReplay.{loads_by, loads, rest_of, HasNoWholeRequest, IsCurrent, LoadsOn, ReplaysPiece, IsLoaded, still_record, verdict, verdict_at, verdict_in, verdict_by}
+use Rattle.ts_execution.specs.Stages.{Rest, load_at, rest_at}
 use Rattle.ts_execution.specs.declared.loading.Loaded.{Loaded}
 use Rattle.ts_execution.specs.declared.loading.Loaded.TheVariants as loaded
-use Rattle.ts_execution.specs.declared.loading.Loading.{Loading}
+use Rattle.ts_execution.specs.declared.load_state.Loading.{Loading}
+use Rattle.ts_execution.specs.declared.stage.Stage.{Stage}
+use Rattle.ts_execution.specs.declared.stage.Stage.TheVariants as stage
 use Rattle.ts_execution.proofs.Carried.{carries_none, carries_as, carries_then}
 use Rattle.ts_execution.proofs.Loadings.{loads-whole}
+
+-- the requests of these bytes, from the first one
+abbrev pub stream_from_start : WireLimits → List ℕ → Stream
+stream_from_start wire bytes = stream_at (journal_limits wire) 0 bytes
 
 -- these bytes, a prefix of the journal, lead from one state to the other
 pub record LoadsFrom (wire : WireLimits) (bytes : List ℕ) (now : Loading) (is_record : Bool) (from to : DbState) : Type 0 where
   pub limits : to.limits ≡ from.limits
-  pub on : (size : ℕ) (more : List ℕ) → load_on from.limits from.state 0 size (stream_at (journal_limits wire) 0 (bytes ++ more)) ≡ loads from.limits now to.state size more
+  pub on : (size : ℕ) (more : List ℕ) → load_start from.limits from.state size (stream_from_start wire (bytes ++ more)) ≡ loads from.limits now to.state size more
+  pub rest : now.broken ≡ None → (more : List ℕ) → rest_at stage.Start 0 (stream_from_start wire (bytes ++ more)) ≡ rest_of now more
   -- the flag tells how the request begins inside which they end
-  pub rest : (at : ℕ) → now.broken ≡ None → ending_of (stream_at (journal_limits wire) 0 bytes) ≡ Inside at → is_record ≡ begins_as_record (drop at bytes)
+  pub begins : (at : ℕ) → now.broken ≡ None → ending_of (stream_from_start wire bytes) ≡ Inside at → is_record ≡ begins_as_record (drop at bytes)
 
--- this many bytes were read, and their requests replayed
+-- this many bytes were read, and their requests taken
 pub record ReadSoFar (wire : WireLimits) (left rest : Option (List ℕ)) (taken : ℕ) (a b : DbView) (now : Loading) (is_record : Bool) : Type 0 where
   pub bytes : List ℕ
   pub took : Consumes left rest bytes
   pub count : length bytes ≡ taken
   pub goes : Simulates a b (λ from to. LoadsFrom wire bytes now is_record from to)
 
-stream-none : (limits : WireLimits) (at : ℕ) → ending_of (stream_at limits 0 []) ≡ Inside at → ⊥
+stream-none : (wire : WireLimits) (at : ℕ) → ending_of (stream_from_start wire []) ≡ Inside at → ⊥
 unfolding read_on
-stream-none limits at e = cc
+stream-none wire at e = cc
 
-pub read-none : (wire : WireLimits) (left : Option (List ℕ)) (now : Loading) (is_record : Bool) (db_view : DbView) → ((more : List ℕ) → stream_of now.reader more ≡ stream_at (journal_limits wire) 0 more) → now.end ≡ 0
+pub read-none : (wire : WireLimits) (left : Option (List ℕ)) (now : Loading) (is_record : Bool) (db_view : DbView) → ((more : List ℕ) → stream_of now.reader more ≡ stream_from_start wire more) → now.stage ≡ stage.Start
     → now.broken ≡ None → ReadSoFar wire left left 0 db_view db_view now is_record
-read-none wire left now is_record db_view stream end whole = record {
+read-none wire left now is_record db_view stream start whole = record {
   bytes = [];
   took = Consumes-nil left;
   count = refl;
   goes = carries_none db_view (λ from to. LoadsFrom wire [] now is_record from to)
       (λ from stands. record {
         limits = refl;
-        on = λ size more. ap (load_on from.limits from.state 0 size) (sym (stream more)) ∙ ap (λ (e : ℕ). load_on from.limits from.state e size (stream_of now.reader more)) (sym end)
-            ∙ sym (loads-whole from.limits now from.state size more whole);
-        rest = λ at none inside. absurd (stream-none (journal_limits wire) at inside);
+        on = λ size more. ap (load_start from.limits from.state size) (sym (stream more))
+            ∙ ap (λ (s : Stage). load_at s from.limits from.state now.end size (stream_of now.reader more)) (sym start) ∙ sym (loads-whole from.limits now from.state size more whole);
+        rest = λ none more. ap (rest_at stage.Start 0) (sym (stream more)) ∙ ap (λ (s : Stage). rest_at s now.end (stream_of now.reader more)) (sym start);
+        begins = λ at none inside. absurd (stream-none wire at inside);
       });
 }
 
 -- ---- how the rest begins
 
-loaded-at : (limits : Limits) (m : State) (end size : ℕ) (place : Option ℕ) → load_on limits m end size (ended_at place) ≡ Loads m (unwrap_or place size)
-loaded-at limits m end size None = refl
-loaded-at limits m end size (Some place) = refl
+-- where all complete requests were taken
+current-at : (now : Loading) → now.broken ≡ None → IsCurrent now → stream_of now.reader [] ≡ ended_at (unfinished now.reader)
+current-at now none current = (subst (λ (o : Option ℕ). IfNone o (HasNoWholeRequest now.reader)) none current).rest
 
--- where all complete requests were replayed
-loads-ended_at : (limits : Limits) (now : Loading) (m : State) (size : ℕ) → now.broken ≡ None → IsCurrent now → loads limits now m size [] ≡ Loads m (unwrap_or (unfinished now.reader) size)
-loads-ended_at limits now m size none current =
-    loads-whole limits now m size [] none
-    ∙ ap (load_on limits m now.end size) (subst (λ (o : Option ℕ). IfNone o (HasNoWholeRequest now.reader)) none current).rest
-    ∙ loaded-at limits m now.end size (unfinished now.reader)
-
-begun-at : (o : Option ℕ) (at : ℕ) → unwrap_or o (suc at) ≡ at → o ≡ Some at
-begun-at None at e = absurd (omega (arith, e))
-begun-at (Some place) at e = ap Some e
+ended-inside : (o : Option ℕ) (at : ℕ) → ending_of (ended_at o) ≡ Inside at → o ≡ Some at
+ended-inside None at e = absurd cc
+ended-inside (Some place) at e = cc
 
 below-or-not : (n m : ℕ) → (n < m) ⊎ (m ≤ n)
 below-or-not n m = grind arith
-
--- the bytes end inside the unfinished request of the reader, if they end inside one
-pub ends-inside : (limits : Limits) (m n : State) (stream : Stream) (o : Option ℕ) (at : ℕ) → ending_of stream ≡ Inside at → load_on limits m 0 (suc at) stream ≡ Loads n (unwrap_or o (suc at)) → o ≡ Some at
-ends-inside limits m n stream o at inside e = elim (loads-end limits m 0 (suc at) stream n (unwrap_or o (suc at)) e) [
-  | inl ended ↦ (let two : Ended ≡ Inside at = sym ended.0 ∙ inside in absurd cc)
-  | inr other ↦ (let two : Inside (unwrap_or o (suc at)) ≡ Inside at = sym other ∙ inside in begun-at o at cc)
-]
-
--- and the other way round
-pub inside-at : (limits : Limits) (m n : State) (stream : Stream) (at : ℕ) → load_on limits m 0 (suc at) stream ≡ Loads n at → ending_of stream ≡ Inside at
-inside-at limits m n stream at e = elim (loads-end limits m 0 (suc at) stream n at e) [
-  | inl ended ↦ absurd (omega (arith, ended.1))
-  | inr inside ↦ inside
-]
-
--- a journal that did not break did not break before
-whole-before : (old new : Loading) (bytes : List ℕ) (from to : DbState) (b : Option ℕ) → old.broken ≡ b → LoadsOn old new bytes from to → new.broken ≡ None → IsCurrent new → b ≡ None
-whole-before old new bytes from to None its is none current = refl
-whole-before old new bytes from to (Some place) its is none current =
-    let two : BreaksAt place ≡ Loads to.state (unwrap_or (unfinished new.reader) 0) =
-    sym (ap (λ (o : Option ℕ). loads_by o from.limits old from.state 0 (bytes ++ [])) its) ∙ is.on 0 [] ∙ loads-ended_at from.limits new to.state 0 none current in
-    absurd cc
 
 flag-is : (was now : Bool) (o : Option ℕ) (at before : ℕ) (piece : List ℕ) → now ≡ still_record was o before piece → o ≡ Some at → now ≡ still_record was (Some at) before piece
 flag-is was now o at before piece is its = is ∙ ap (λ (o : Option ℕ). still_record was o before piece) its
 
 -- after one more piece
-more-rest : (wire : WireLimits) (bytes piece : List ℕ) (before : ℕ) (old new : Loading) (was now : Bool) (from mid to : DbState) → LoadsFrom wire bytes old was from mid → LoadsOn old new piece mid to
+more-begins : (wire : WireLimits) (bytes piece : List ℕ) (before : ℕ) (old new : Loading) (was now : Bool) (from mid to : DbState) → LoadsFrom wire bytes old was from mid → LoadsOn old new piece mid to
     → IsCurrent new → length bytes ≡ before → now ≡ still_record was (unfinished new.reader) before piece
-    → ((size : ℕ) → load_on from.limits from.state 0 size (stream_at (journal_limits wire) 0 (bytes ++ piece)) ≡ loads from.limits new to.state size [])
-    → (at : ℕ) → new.broken ≡ None → ending_of (stream_at (journal_limits wire) 0 (bytes ++ piece)) ≡ Inside at → now ≡ begins_as_record (drop at (bytes ++ piece))
-more-rest wire bytes piece before old new was now from mid to so is current count flag on at none inside =
+    → (new.broken ≡ None → rest_at stage.Start 0 (stream_from_start wire (bytes ++ piece)) ≡ rest_of new [])
+    → (at : ℕ) → new.broken ≡ None → ending_of (stream_from_start wire (bytes ++ piece)) ≡ Inside at → now ≡ begins_as_record (drop at (bytes ++ piece))
+more-begins wire bytes piece before old new was now from mid to so is current count flag rest at none inside =
     let begun : unfinished new.reader ≡ Some at =
-    ends-inside from.limits from.state to.state (stream_at (journal_limits wire) 0 (bytes ++ piece)) (unfinished new.reader) at inside
-    (on (suc at) ∙ loads-ended_at from.limits new to.state (suc at) none current) in
+    ended-inside (unfinished new.reader) at (ap ending_of (sym (current-at new none current)) ∙ sym (ap (λ (r : Rest). r.ending) (rest none)) ∙ inside) in
     let known : now ≡ still_record was (Some at) before piece = flag-is was now (unfinished new.reader) at before piece flag begun in
     elim (below-or-not at before) [
       | inl less ↦
           (let few : at < length bytes = omega (arith, less, count) in
           known ∙ ap (λ (b : Bool). if b then begins_as_record (drop (at - before) piece) else was) (lt-leb before at less)
-          ∙ so.rest at (whole-before old new piece mid to old.broken refl is none current) (begun-before (journal_limits wire) bytes piece at inside few)
+          ∙ so.begins at (is.whole none) (begun-before (journal_limits wire) bytes piece at inside few)
           ∙ sym (rest-before bytes piece at few))
       | inr past ↦
           (let there : length bytes ≤ at = omega (arith, past, count) in
@@ -136,16 +116,22 @@ read-more wire left between rest taken count old new was now a b c so takes = re
       (λ from mid to had is. record {
         limits = is.limits ∙ had.limits;
         on = more-loads from mid to had is;
-        rest = more-rest wire so.bytes takes.bytes taken old new was now from mid to had is takes.current so.count takes.starts
-            (λ size. ap (λ (l : List ℕ). load_on from.limits from.state 0 size (stream_at (journal_limits wire) 0 l)) (sym (append-nil (so.bytes ++ takes.bytes))) ∙ more-loads from mid to had is size []);
+        rest = more-rest from mid to had is;
+        begins = more-begins wire so.bytes takes.bytes taken old new was now from mid to had is takes.current so.count takes.starts
+            (λ none. ap (λ (l : List ℕ). rest_at stage.Start 0 (stream_from_start wire l)) (sym (append-nil (so.bytes ++ takes.bytes))) ∙ more-rest from mid to had is none []);
       }) so.goes takes.goes;
 }
   where
     more-loads : (from mid to : DbState) → LoadsFrom wire so.bytes old was from mid → LoadsOn old new takes.bytes mid to → (size : ℕ) (more : List ℕ)
-        → load_on from.limits from.state 0 size (stream_at (journal_limits wire) 0 ((so.bytes ++ takes.bytes) ++ more)) ≡ loads from.limits new to.state size more
+        → load_start from.limits from.state size (stream_from_start wire ((so.bytes ++ takes.bytes) ++ more)) ≡ loads from.limits new to.state size more
     more-loads from mid to had is size more =
-        ap (λ (l : List ℕ). load_on from.limits from.state 0 size (stream_at (journal_limits wire) 0 l)) (append_assoc so.bytes takes.bytes more) ∙ had.on size (takes.bytes ++ more)
+        ap (λ (l : List ℕ). load_start from.limits from.state size (stream_from_start wire l)) (append_assoc so.bytes takes.bytes more) ∙ had.on size (takes.bytes ++ more)
         ∙ subst (λ (l : Limits). loads l old mid.state size (takes.bytes ++ more) ≡ loads l new to.state size more) had.limits (is.on size more)
+
+    more-rest : (from mid to : DbState) → LoadsFrom wire so.bytes old was from mid → LoadsOn old new takes.bytes mid to → new.broken ≡ None → (more : List ℕ)
+        → rest_at stage.Start 0 (stream_from_start wire ((so.bytes ++ takes.bytes) ++ more)) ≡ rest_of new more
+    more-rest from mid to had is none more =
+        ap (λ (l : List ℕ). rest_at stage.Start 0 (stream_from_start wire l)) (append_assoc so.bytes takes.bytes more) ∙ had.rest (is.whole none) (takes.bytes ++ more) ∙ is.rest none more
 
 -- a piece without bytes
 read-last : (wire : WireLimits) (left between rest : Option (List ℕ)) (taken count : ℕ) (old new : Loading) (was now : Bool) (a b c : DbView) → count ≡ 0 → ReadSoFar wire left between taken a b old was
@@ -161,41 +147,68 @@ all-read content None bytes all told took at_end = absurd (subst (λ (o : Option
 all-read content (Some rest) bytes all told took at_end =
     subst (λ (o : Option (List ℕ)). Consumes o (Some rest) bytes) told took ∙ ap (λ (l : List ℕ). bytes ++ l) at_end
 
--- the requests of the bytes that were read, from their first one
-abbrev Requests : WireLimits → Loading → (from to : DbState) → List ℕ → Option ℕ → Type 0
-Requests wire now from to bytes broken =
-    (size : ℕ) → load_on from.limits from.state 0 size (stream_at (journal_limits wire) 0 bytes) ≡ loads_by broken from.limits now to.state size []
+module _ (wire : WireLimits) (from to : DbState) (bytes : List ℕ) (flag : Bool) (limits : to.limits ≡ from.limits)
+    (begins : (at : ℕ) → ending_of (stream_from_start wire bytes) ≡ Inside at → flag ≡ begins_as_record (drop at bytes)) where
+  abbrev Loading_gives : (ℕ → State → ℕ → Type 0)
+  Loading_gives size m place = load_start from.limits from.state size (stream_from_start wire bytes) ≡ Loads m place
 
--- the flag tells how the unfinished request begins
-found-inside : (wire : WireLimits) (now : Loading) (from to : DbState) (bytes : List ℕ) (at : ℕ) (flag : Bool) → to.limits ≡ from.limits
-    → load_on from.limits from.state 0 (length bytes) (stream_at (journal_limits wire) 0 bytes) ≡ Loads to.state at → flag ≡ begins_as_record (drop at bytes)
-    → IsLoaded (if flag then loaded.Whole at else loaded.Broken at) wire from to bytes
-found-inside wire now from to bytes at true limits loads rest =
-    (by-rest bytes (load_on from.limits from.state 0 (length bytes) (stream_at (journal_limits wire) 0 bytes)) to.state at true loads (sym rest), limits)
-found-inside wire now from to bytes at false limits loads rest =
-    by-rest bytes (load_on from.limits from.state 0 (length bytes) (stream_at (journal_limits wire) 0 bytes)) to.state at false loads (sym rest)
+  -- the flag tells how the unfinished request begins
+  found-inside : (at checkpoint : ℕ) (b : Bool) → Loading_gives (length bytes) to.state at → b ≡ begins_as_record (drop at bytes) → checkpoint ≡ front_size (stream_from_start wire bytes)
+      → IsLoaded (if b then loaded.Whole at checkpoint else loaded.Broken at) wire from to bytes
+  found-inside at checkpoint true loads rest size =
+      (by-rest bytes (load_start from.limits from.state (length bytes) (stream_from_start wire bytes)) to.state at true loads (sym rest), limits, size)
+  found-inside at checkpoint false loads rest size =
+      by-rest bytes (load_start from.limits from.state (length bytes) (stream_from_start wire bytes)) to.state at false loads (sym rest)
 
-found-end : (o : Option ℕ) (wire : WireLimits) (now : Loading) (from to : DbState) (bytes : List ℕ) (taken : ℕ) (flag : Bool) → to.limits ≡ from.limits → length bytes ≡ taken
-    → ((size : ℕ) → load_on from.limits from.state 0 size (stream_at (journal_limits wire) 0 bytes) ≡ Loads to.state (unwrap_or o size))
-    → ((at : ℕ) → ending_of (stream_at (journal_limits wire) 0 bytes) ≡ Inside at → flag ≡ begins_as_record (drop at bytes))
-    → IsLoaded (verdict_at o flag taken) wire from to bytes
-found-end None wire now from to bytes taken flag limits count loads rest = (
-  loads-alone bytes (load_on from.limits from.state 0 (length bytes) (stream_at (journal_limits wire) 0 bytes)) to.state taken (omega (arith, count))
-      (loads (length bytes) ∙ ap (λ (n : ℕ). Loads to.state n) count),
-  limits,
-)
-found-end (Some at) wire now from to bytes taken flag limits count loads rest =
-    found-inside wire now from to bytes at flag limits (loads (length bytes))
-    (rest at (inside-at from.limits from.state to.state (stream_at (journal_limits wire) 0 bytes) at (loads (suc at))))
+  found-end : (o : Option ℕ) (checkpoint taken : ℕ) → length bytes ≡ taken → ((size : ℕ) → Loading_gives size to.state (unwrap_or o size))
+      → ending_of (stream_from_start wire bytes) ≡ ending_of (ended_at o) → checkpoint ≡ front_size (stream_from_start wire bytes)
+      → IsLoaded (verdict_at o checkpoint flag taken) wire from to bytes
+  found-end None checkpoint taken count loads ending size = (
+    loads-alone bytes (load_start from.limits from.state (length bytes) (stream_from_start wire bytes)) to.state taken (omega (arith, count))
+        (loads (length bytes) ∙ ap (λ (n : ℕ). Loads to.state n) count),
+    limits,
+    size,
+  )
+  found-end (Some at) checkpoint taken count loads ending size = found-inside at checkpoint flag (loads (length bytes)) (begins at ending) size
 
-found-at : (broken : Option ℕ) (wire : WireLimits) (now : Loading) (flag : Bool) (from to : DbState) (bytes : List ℕ) (taken : ℕ) → to.limits ≡ from.limits → length bytes ≡ taken → IfNone broken (HasNoWholeRequest now.reader)
-    → Requests wire now from to bytes broken
-    → (broken ≡ None → (at : ℕ) → ending_of (stream_at (journal_limits wire) 0 bytes) ≡ Inside at → flag ≡ begins_as_record (drop at bytes))
-    → IsLoaded (verdict_by broken now.reader flag taken) wire from to bytes
-found-at (Some place) wire now flag from to bytes taken limits count current loads rest = ap (unless_foreign bytes) (loads (length bytes))
-found-at None wire now flag from to bytes taken limits count current loads rest =
-    found-end (unfinished now.reader) wire now from to bytes taken flag limits count
-    (λ size. loads size ∙ ap (load_on from.limits to.state now.end size) current.rest ∙ loaded-at from.limits to.state now.end size (unfinished now.reader)) (rest refl)
+  starts-end : (m : State) (size : ℕ) (o : Option ℕ) → load_start from.limits m size (ended_at o) ≡ Loads m (unwrap_or o size)
+  starts-end m size None = refl
+  starts-end m size (Some place) = refl
+
+  changes-end : (m : State) (end size : ℕ) (o : Option ℕ) → load_on from.limits m end size (ended_at o) ≡ Loads m (unwrap_or o size)
+  changes-end m end size None = refl
+  changes-end m end size (Some place) = refl
+
+  no-front : (o : Option ℕ) → front_size (ended_at o) ≡ 0
+  no-front None = refl
+  no-front (Some place) = refl
+
+  -- by the stage at the end
+  found-in : (s : Stage) (end : ℕ) (o : Option ℕ) (taken : ℕ) → length bytes ≡ taken
+      → ((size : ℕ) → load_start from.limits from.state size (stream_from_start wire bytes) ≡ load_at s from.limits to.state end size (ended_at o))
+      → rest_at stage.Start 0 (stream_from_start wire bytes) ≡ rest_at s end (ended_at o)
+      → IsLoaded (verdict_in s end o flag taken) wire from to bytes
+  found-in stage.Start end o taken count loads rest =
+      found-end o 0 taken count (λ size. loads size ∙ starts-end to.state size o) (ap (λ (r : Rest). r.ending) rest)
+      (sym (ap (λ (r : Rest). r.checkpoint) rest ∙ no-front o))
+  found-in (stage.Parts more current) end None taken count loads rest = ap (unless_foreign bytes) (loads (length bytes))
+  found-in (stage.Parts more current) end (Some place) taken count loads rest = ap (unless_foreign bytes) (loads (length bytes))
+  found-in (stage.Changes checkpoint) end o taken count loads rest =
+      found-end o checkpoint taken count (λ size. loads size ∙ changes-end to.state end size o) (ap (λ (r : Rest). r.ending) rest)
+      (sym (ap (λ (r : Rest). r.checkpoint) rest))
+
+-- by whether it broke
+found-at : (broken : Option ℕ) (wire : WireLimits) (now : Loading) (flag : Bool) (from to : DbState) (bytes : List ℕ) (taken : ℕ) → to.limits ≡ from.limits → length bytes ≡ taken
+    → IfNone broken (HasNoWholeRequest now.reader)
+    → ((size : ℕ) → load_start from.limits from.state size (stream_from_start wire bytes) ≡ loads_by broken from.limits now to.state size [])
+    → (broken ≡ None → rest_at stage.Start 0 (stream_from_start wire bytes) ≡ rest_of now [])
+    → (broken ≡ None → (at : ℕ) → ending_of (stream_from_start wire bytes) ≡ Inside at → flag ≡ begins_as_record (drop at bytes))
+    → IsLoaded (verdict_by broken now flag taken) wire from to bytes
+found-at (Some place) wire now flag from to bytes taken limits count current loads rest begins = ap (unless_foreign bytes) (loads (length bytes))
+found-at None wire now flag from to bytes taken limits count current loads rest begins =
+    found-in wire from to bytes flag limits (begins refl) now.stage now.end (unfinished now.reader) taken count
+    (λ size. loads size ∙ ap (load_at now.stage from.limits to.state now.end size) current.rest)
+    (rest refl ∙ ap (rest_at now.stage now.end) current.rest)
 
 read-all : (wire : WireLimits) (left rest : Option (List ℕ)) (taken : ℕ) (now : Loading) (flag : Bool) (a b : DbView) (answer : Loaded) → answer ≡ verdict now flag taken → ReadSoFar wire left rest taken a b now flag
     → IsAtEnd rest → IsCurrent now → Simulates a b (λ from to. (bytes : List ℕ) → left ≡ Some bytes → IsLoaded answer wire from to bytes)
@@ -206,8 +219,9 @@ read-all wire left rest taken now flag a b answer answered so at_end current =
     subst (λ (l : Loaded). IsLoaded l wire from to bytes) (sym answered)
     (subst (λ (l : List ℕ). IsLoaded (verdict now flag taken) wire from to l) (sym all)
     (found-at now.broken wire now flag from to so.bytes taken is.limits so.count current
-    (λ size. ap (λ (l : List ℕ). load_on from.limits from.state 0 size (stream_at (journal_limits wire) 0 l)) (sym (append-nil so.bytes)) ∙ is.on size [])
-    (λ none at. is.rest at none)))) so.goes
+    (λ size. ap (λ (l : List ℕ). load_start from.limits from.state size (stream_from_start wire l)) (sym (append-nil so.bytes)) ∙ is.on size [])
+    (λ none. ap (λ (l : List ℕ). rest_at stage.Start 0 (stream_from_start wire l)) (sym (append-nil so.bytes)) ∙ is.rest none [])
+    (λ none at. is.begins at none)))) so.goes
 
 unread-start : (content : Option (List ℕ)) (place : ℕ) (bytes : List ℕ) → place ≡ 0 → content ≡ Some bytes → unread content place ≡ Some bytes
 unread-start content place bytes start told = ap (unread content) start ∙ ap (λ (o : Option (List ℕ)). unread o 0) told
@@ -247,58 +261,3 @@ pub whole-size : (wire : WireLimits) (content between rest : Option (List ℕ)) 
 whole-size wire content between rest place taken count start old new was now a b c so takes none at_end bytes told =
     sizes bytes so.bytes takes.bytes between rest (subst (λ (o : Option (List ℕ)). Consumes o between so.bytes) (unread-start content place bytes start told) so.took)
     takes.took (takes.count ∙ none) at_end ∙ so.count
-
--- ---- where the complete requests end
-
-end-within : (mode : Mode) (begin bound : ℕ) → begin ≤ bound → IfSome (begun_at_end mode begin) (λ at. at ≤ bound)
-end-within Start begin bound within = tt
-end-within (Text line) begin bound within = within
-end-within (Count line) begin bound within = within
-end-within (CountFeed n) begin bound within = within
-end-within (Mark so_far) begin bound within = within
-end-within (Length so_far line) begin bound within = within
-end-within (LengthFeed so_far n) begin bound within = within
-end-within (Body so_far n bytes) begin bound within = within
-end-within (WordReturn so_far bytes) begin bound within = within
-end-within (WordFeed so_far bytes) begin bound within = within
-
-after-within : (m : Move) (place begin bound : ℕ) (on : ℕ → Mode → Option ℕ) → begin ≤ bound → place + 1 ≤ bound
-    → ((from : ℕ) (next : Mode) → from ≤ bound → IfSome (on from next) (λ at. at ≤ bound)) → IfSome (begun_after m place begin on) (λ at. at ≤ bound)
-after-within (Goto Start) place begin bound on within next each = each begin Start within
-after-within (Goto (Text line)) place begin bound on within next each = each begin (Text line) within
-after-within (Goto (Count line)) place begin bound on within next each = each begin (Count line) within
-after-within (Goto (CountFeed n)) place begin bound on within next each = each begin (CountFeed n) within
-after-within (Goto (Mark so_far)) place begin bound on within next each = within
-after-within (Goto (Length so_far line)) place begin bound on within next each = each begin (Length so_far line) within
-after-within (Goto (LengthFeed so_far n)) place begin bound on within next each = each begin (LengthFeed so_far n) within
-after-within (Goto (Body so_far n bytes)) place begin bound on within next each = each begin (Body so_far n bytes) within
-after-within (Goto (WordReturn so_far bytes)) place begin bound on within next each = each begin (WordReturn so_far bytes) within
-after-within (Goto (WordFeed so_far bytes)) place begin bound on within next each = each begin (WordFeed so_far bytes) within
-after-within (Whole []) place begin bound on within next each = each (place + 1) Start next
-after-within (Whole (word ∷ words)) place begin bound on within next each = within
-after-within (Fault kind) place begin bound on within next each = within
-
-begun-within : (limits : WireLimits) (place begin bound : ℕ) (mode : Mode) (bytes : List ℕ) → begin ≤ bound → place + length bytes ≤ bound → IfSome (begun_on limits place begin mode bytes) (λ at. at ≤ bound)
-unfolding begun_on
-begun-within limits place begin bound mode [] within all = end-within mode begin bound within
-begun-within limits place begin bound mode (byte ∷ bytes) within all =
-    after-within (move limits mode byte) place begin bound (λ from next. begun_on limits (place + 1) from next bytes) within (omega (arith, all))
-    (λ from next before. begun-within limits (place + 1) from bound next bytes before (omega (arith, all)))
-
-at-within : (so_far : Option Partial) (limits : WireLimits) (place begin bound : ℕ) (bytes : List ℕ) → begin ≤ bound → place + length bytes ≤ bound → IfSome (begun_at so_far limits place begin bytes) (λ at. at ≤ bound)
-at-within (Some so_far) limits place begin bound bytes within all = within
-at-within None limits place begin bound bytes within all = begun-within limits place begin bound Start bytes within all
-
-ends-at : (place : Option ℕ) (flag : Bool) (taken read : ℕ) → IfSome place (λ at. at ≤ read) → taken ≤ read → EndsWithin (verdict_at place flag taken) read
-ends-at None flag taken read is within = within
-ends-at (Some place) true taken read is within = is
-ends-at (Some place) false taken read is within = tt
-
--- the complete requests end within the bytes read
-ends-by : (broken : Option ℕ) (r : Reading) (flag : Bool) (taken read : ℕ) → IfNone broken (HasNoWholeRequest r) → fed r ≤ taken → taken ≤ read → EndsWithin (verdict_by broken r flag taken) read
-ends-by (Some place) r flag taken read current within before = tt
-ends-by None r flag taken read current within before =
-    ends-at (unfinished r) flag taken read (at-within r.so_far r.limits r.place r.begin read r.unread (omega (arith, current.begun, within, before)) (omega (arith, within, before))) before
-
-pub ends-within : (answer : Loaded) (l : Loading) (flag : Bool) (taken read : ℕ) → answer ≡ verdict l flag taken → IsCurrent l → fed l.reader ≤ taken → taken ≤ read → EndsWithin answer read
-ends-within answer l flag taken read is current within before = subst (λ (a : Loaded). EndsWithin a read) (sym is) (ends-by l.broken l.reader flag taken read current within before)

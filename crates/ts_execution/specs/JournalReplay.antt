@@ -13,20 +13,24 @@ use Rattle.ts_spec.specs.Replies.{reply_list, item_reply}
 use Rattle.ts_spec.specs.Response.{Wrote}
 use Rattle.ts_spec.specs.Step.{Outcome, triple_step, item_of}
 use Rattle.ts_spec.specs.State.{State}
-use Rattle.ts_spec.specs.Wire.{Request}
+use Rattle.ts_spec.specs.Wire.{Request, stream_at}
 use Rattle.ts_spec.specs.declared.limits.Limits.{Limits}
 use Rattle.ts_spec.specs.declared.wire.WireLimits.{WireLimits}
-use Rattle.ts_journal.specs.Loading.{Load, Loads, BreaksAt, apply_recorded, apply_recorded_request, begins_as_record, load_on, load_from}
+use Rattle.ts_journal.specs.Limits.{journal_limits}
+use Rattle.ts_journal.specs.Loading.{Load, Loads, BreaksAt, apply_recorded, apply_recorded_request, begins_as_record}
 use Rattle.ts_journal.specs.RecordReplay.{has_error}
+use Rattle.ts_checkpoint.specs.Fronts.{front_size}
+use Rattle.ts_checkpoint.specs.Loading.{load_from}
+use Rattle.ts_execution.specs.Stages.{Rest, load_at, rest_at}
 use Rattle.ts_execution.specs.declared.journal_replay.ReplayResult.{ReplayResult}
 use Rattle.ts_execution.specs.declared.journal_replay.ReplayResult.TheVariants as replay_result
-use Rattle.ts_execution.specs.declared.next_change.NextChange.{NextChange}
-use Rattle.ts_execution.specs.declared.next_change.NextChange.TheVariants as found
 use Rattle.ts_execution.specs.declared.journal_piece.Piece.{Piece}
 use Rattle.ts_execution.specs.declared.journal_piece.Piece.TheVariants as piece
 use Rattle.ts_execution.specs.declared.loading.Loaded.{Loaded}
 use Rattle.ts_execution.specs.declared.loading.Loaded.TheVariants as loaded
-use Rattle.ts_execution.specs.declared.loading.Loading.{Loading}
+use Rattle.ts_execution.specs.declared.load_state.Loading.{Loading}
+use Rattle.ts_execution.specs.declared.stage.Stage.{Stage}
+use Rattle.ts_execution.specs.declared.stage.Stage.TheVariants as stage
 
 -- ---- one request
 
@@ -66,41 +70,21 @@ ReplaysRequest replay_result.Accepted words from to = (apply_recorded_request fr
 ReplaysRequest replay_result.Refused words from to = (apply_recorded_request from.limits from.state (command words) ≡ None) × (to.limits ≡ from.limits)
 ReplaysRequest replay_result.Memory words from to = ⊤
 
--- ---- the requests of a reader
-
--- The next request was replayed, and more may follow; or no complete one is left; or the journal breaks here; or memory
--- ran out. `end` is the offset after the requests replayed before. Holds for any bytes that follow and any size of the
--- journal.
-abbrev pub IsNextChange : NextChange → (old new : Reading) → (end : ℕ) → (from to : DbState) → Type 0
-IsNextChange (found.Change end') old new end from to = (to.limits ≡ from.limits)
-    × ((size : ℕ) (more : List ℕ) → load_on from.limits from.state end size (stream_of old more) ≡ load_on from.limits to.state end' size (stream_of new more))
-IsNextChange found.Nothing old new end from to = (to ≡ from) × ((more : List ℕ) → stream_of new more ≡ stream_of old more)
-IsNextChange (found.Broken place) old new end from to = (to.limits ≡ from.limits)
-    × ((size : ℕ) (more : List ℕ) → load_on from.limits from.state end size (stream_of old more) ≡ BreaksAt place)
-IsNextChange found.Memory old new end from to = ⊤
-
--- by the replayed request, which ends at `after`; those before it end at `before`
-abbrev pub next_change_by : ReplayResult → (after before : ℕ) → NextChange
-next_change_by replay_result.Accepted after before = found.Change after
-next_change_by replay_result.Refused after before = found.Broken before
-next_change_by replay_result.Memory after before = found.Memory
-
--- a fact, if a change was replayed
-abbrev pub IfChange : NextChange → Type 0 → Type 0
-IfChange (found.Change end) what = what
-IfChange other what = ⊤
-
--- ---- pieces
+-- ---- the requests of a journal
 
 -- What the remaining bytes load to, for a journal of `size` bytes. The bytes so far led to state `m`, unless the
 -- journal broke.
 abbrev pub loads_by : Option ℕ → Limits → Loading → State → (size : ℕ) → (more : List ℕ) → Load
 loads_by (Some place) limits l m size more = BreaksAt place
-loads_by None limits l m size more = load_on limits m l.end size (stream_of l.reader more)
+loads_by None limits l m size more = load_at l.stage limits m l.end size (stream_of l.reader more)
 
 -- what the remaining bytes load to
 abbrev pub loads : Limits → Loading → State → (size : ℕ) → (more : List ℕ) → Load
 loads limits l m size more = loads_by l.broken limits l m size more
+
+-- where the remaining bytes end, and the size of the checkpoint
+abbrev pub rest_of : Loading → (more : List ℕ) → Rest
+rest_of l more = rest_at l.stage l.end (stream_of l.reader more)
 
 -- the reader has no complete request left, and its current request begins within the bytes it was fed
 pub record HasNoWholeRequest (r : Reading) : Type 0 where
@@ -112,10 +96,12 @@ abbrev pub IsCurrent : Loading → Type 0
 IsCurrent l = IfNone l.broken (HasNoWholeRequest l.reader)
 
 -- The complete requests in these bytes were replayed: loading the rest from the new state gives what loading all from
--- the old one does.
+-- the old one does. A journal that has not broken had not broken before, and its rest ends as all of it does.
 pub record LoadsOn (old new : Loading) (bytes : List ℕ) (from to : DbState) : Type 0 where
   pub limits : to.limits ≡ from.limits
   pub on : (size : ℕ) (more : List ℕ) → loads from.limits old from.state size (bytes ++ more) ≡ loads from.limits new to.state size more
+  pub whole : new.broken ≡ None → old.broken ≡ None
+  pub rest : new.broken ≡ None → (more : List ℕ) → rest_of old (bytes ++ more) ≡ rest_of new more
 
 -- the same, if there was memory
 abbrev pub LoadsIf : (done : Bool) → (old new : Loading) → (bytes : List ℕ) → (from to : DbState) → Type 0
@@ -148,31 +134,40 @@ IfRead other what = ⊤
 
 -- how a journal with these bytes was loaded
 abbrev pub IsLoaded : Loaded → WireLimits → (from to : DbState) → List ℕ → Type 0
-IsLoaded (loaded.Whole place) wire from to bytes = (load_from from.limits wire from.state bytes ≡ Loads to.state place) × (to.limits ≡ from.limits)
+IsLoaded (loaded.Whole place checkpoint) wire from to bytes =
+    (load_from from.limits wire from.state bytes ≡ Loads to.state place) × (to.limits ≡ from.limits)
+    × (checkpoint ≡ front_size (stream_at (journal_limits wire) 0 bytes))
 IsLoaded (loaded.Broken place) wire from to bytes = load_from from.limits wire from.state bytes ≡ BreaksAt place
 IsLoaded other wire from to bytes = ⊤
 
 -- the result depends on the content alone: the journal loads, or it breaks
 abbrev pub IsJudged : Loaded → Type 0
-IsJudged (loaded.Whole place) = ⊤
+IsJudged (loaded.Whole place checkpoint) = ⊤
 IsJudged (loaded.Broken place) = ⊤
 IsJudged other = ⊥
 
 -- the complete requests end within the bytes read
 abbrev pub EndsWithin : Loaded → (read : ℕ) → Type 0
-EndsWithin (loaded.Whole place) read = place ≤ read
+EndsWithin (loaded.Whole place checkpoint) read = place ≤ read
 EndsWithin other read = ⊤
 
--- the result for a journal of `taken` bytes, whose unfinished request begins at this offset
-abbrev pub verdict_at : Option ℕ → (is_record : Bool) → (taken : ℕ) → Loaded
-verdict_at None is_record taken = loaded.Whole taken
-verdict_at (Some place) is_record taken = if is_record then loaded.Whole place else loaded.Broken place
+-- the result for a journal of `taken` bytes that has a checkpoint of this size, if its unfinished request begins at this
+-- offset
+abbrev pub verdict_at : Option ℕ → (checkpoint : ℕ) → (is_record : Bool) → (taken : ℕ) → Loaded
+verdict_at None checkpoint is_record taken = loaded.Whole taken checkpoint
+verdict_at (Some place) checkpoint is_record taken = if is_record then loaded.Whole place checkpoint else loaded.Broken place
+
+-- the same, by the stage at its end: it breaks after its last request if a part is still to come
+abbrev pub verdict_in : Stage → (end : ℕ) → Option ℕ → (is_record : Bool) → (taken : ℕ) → Loaded
+verdict_in stage.Start end begin is_record taken = verdict_at begin 0 is_record taken
+verdict_in (stage.Parts more current) end begin is_record taken = loaded.Broken end
+verdict_in (stage.Changes checkpoint) end begin is_record taken = verdict_at begin checkpoint is_record taken
 
 -- the same, unless the journal broke before
-abbrev pub verdict_by : Option ℕ → Reading → (is_record : Bool) → (taken : ℕ) → Loaded
-verdict_by (Some place) reader is_record taken = loaded.Broken place
-verdict_by None reader is_record taken = verdict_at (unfinished reader) is_record taken
+abbrev pub verdict_by : Option ℕ → Loading → (is_record : Bool) → (taken : ℕ) → Loaded
+verdict_by (Some place) l is_record taken = loaded.Broken place
+verdict_by None l is_record taken = verdict_in l.stage l.end (unfinished l.reader) is_record taken
 
 -- the same, from the state of the load
 abbrev pub verdict : Loading → (is_record : Bool) → (taken : ℕ) → Loaded
-verdict l is_record taken = verdict_by l.broken l.reader is_record taken
+verdict l is_record taken = verdict_by l.broken l is_record taken

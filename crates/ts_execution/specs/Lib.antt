@@ -1,8 +1,11 @@
 pub mod Journaling
 pub mod Limits
 pub mod Recording
+pub mod SeriesChunks
+pub mod Stages
 pub mod JournalReplay
 pub mod Handling
 pub mod Handler
 pub mod Bounded
 pub mod Answers
+pub mod Checkpoints

@@ -8,7 +8,7 @@ ghost use Rattle.ts_db.specs.DbState.{Simulates};
 ghost use Rattle.ts_journal.specs.Loading.{begins_as_record};
 ghost use Rattle.ts_execution.specs.JournalReplay.{ReplaysPiece, IfRead, still_record};
 
-use crate::loading::Loading;
+use crate::load_state::Loading;
 use std::marker::Brand;
 use std::sync::ledger::Blank;
 use ts_db::Db;

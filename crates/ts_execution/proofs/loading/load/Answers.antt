@@ -3,7 +3,8 @@ use Rattle.std.proofs.lemmas.Bool.Decides.{nat_tests}
 use Rattle.ts_io.specs.Logs.{unread}
 use Rattle.ts_spec.specs.Wire.{stream_at}
 use Rattle.ts_execution.proofs.Carried.{carries_as, carries_then}
-use Rattle.ts_execution.proofs.WholeLoads.{read-none, read-more, read-to-end, read-at-most, whole-size, ends-within}
+use Rattle.ts_execution.proofs.EndsWithin.{ends-within}
+use Rattle.ts_execution.proofs.WholeLoads.{read-none, read-more, read-to-end, read-at-most, whole-size}
 use Rattle.ts_execution.proofs.loading.load.Goals as goal
 
 pub loop-taken-init : goal.loop-taken-init

@@ -3,7 +3,7 @@ use Rattle.std.specs.Prelude.{IfNone}
 use Rattle.ts_execution.specs.JournalReplay.{HasNoWholeRequest}
 use Rattle.ts_execution.proofs.Carried.{carries_then}
 use Rattle.ts_execution.proofs.Loadings.{loads-none, loads-more, loads-all, loads-broken}
-use Rattle.ts_execution.proofs.loading.Loading.replay_all.Goals as goal
+use Rattle.ts_execution.proofs.load_state.Loading.replay_all.Goals as goal
 
 pub loop-end-init : goal.loop-end-init
 loop-end-init g c = record { loads = loads-none _ _; whole = c.requires.whole; same = refl }
@@ -13,13 +13,13 @@ loop-end-smaller g c = omega (arith, c.in-Change.ensures.onward, c.in-Change.ens
 
 pub loop-end-preserved : goal.loop-end-preserved
 loop-end-preserved g c = record {
-  loads = loads-more _ _ c.loop-end.invariant.whole _ [] _ _ _ c.loop-end.invariant.loads _ _ refl refl c.loop-end.invariant.whole c.in-Change.ensures.finds;
+  loads = loads-more _ _ c.requires.whole c.loop-end.invariant.whole _ _ [] _ _ _ c.loop-end.invariant.loads _ _ refl refl refl c.loop-end.invariant.whole c.in-Change.ensures.finds;
   whole = c.loop-end.invariant.whole;
   same = c.in-Change.ensures.fed ∙ c.loop-end.invariant.same;
 }
 
 pub returns-in-Nothing-clause-loads : goal.returns-in-Nothing-clause-loads
-returns-in-Nothing-clause-loads g c = loads-all _ _ c.loop-end.invariant.whole _ [] _ _ _ c.loop-end.invariant.loads _ refl refl c.loop-end.invariant.whole c.in-Nothing.ensures.finds
+returns-in-Nothing-clause-loads g c = loads-all _ _ c.requires.whole c.loop-end.invariant.whole _ _ [] _ _ _ c.loop-end.invariant.loads _ refl refl refl c.loop-end.invariant.whole c.in-Nothing.ensures.finds
 
 pub returns-in-Nothing-clause-current : goal.returns-in-Nothing-clause-current
 returns-in-Nothing-clause-current g c = λ _. subst (λ o. IfNone o (HasNoWholeRequest c.next_change.new.reader)) (sym c.loop-end.invariant.whole) (c.in-Nothing.ensures.all refl)
@@ -28,7 +28,7 @@ pub returns-in-Nothing-clause-fed : goal.returns-in-Nothing-clause-fed
 returns-in-Nothing-clause-fed g c = c.in-Nothing.ensures.fed ∙ c.loop-end.invariant.same
 
 pub returns-in-Broken-clause-loads : goal.returns-in-Broken-clause-loads
-returns-in-Broken-clause-loads g c = loads-broken _ _ c.loop-end.invariant.whole c.next_change.new.reader [] _ _ _ c.loop-end.invariant.loads _ _ refl c.in-Broken.ensures.finds
+returns-in-Broken-clause-loads g c = loads-broken _ _ c.requires.whole c.loop-end.invariant.whole c.next_change.new.stage c.next_change.new.reader [] _ _ _ c.loop-end.invariant.loads _ _ refl c.in-Broken.ensures.finds
 
 pub returns-in-Broken-clause-fed : goal.returns-in-Broken-clause-fed
 returns-in-Broken-clause-fed g c = c.in-Broken.ensures.fed ∙ c.loop-end.invariant.same

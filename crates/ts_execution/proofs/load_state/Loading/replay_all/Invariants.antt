@@ -2,7 +2,7 @@ use Rattle.std.proofs.Common.{◌≡◌, ◌-◌, [], None}
 use Rattle.ts_resp.specs.Reading.{fed}
 use Rattle.ts_db.specs.DbState.{Simulates}
 use Rattle.ts_execution.specs.JournalReplay.{LoadsOn}
-use Rattle.ts_execution.proofs.loading.Loading.replay_all.Given as goal
+use Rattle.ts_execution.proofs.load_state.Loading.replay_all.Given as goal
 
 -- the complete requests so far were replayed, and the journal did not break
 abbrev pub invariant-loop-end : goal.invariant-loop-end
