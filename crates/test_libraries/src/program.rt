@@ -20,6 +20,7 @@ fn words_ask_for_a_mode(rt: HostRuntime) -> Result<(), Fail> {
     assert!(rt; mode_of_line(&rt, "mux")? == Some(Mode::Mux));
     assert!(rt; mode_of_line(&rt, "keep x")? == Some(Mode::Keep));
     assert!(rt; mode_of_line(&rt, "keep keep")? == Some(Mode::Keep));
+    assert!(rt; mode_of_line(&rt, "fold x")? == Some(Mode::Fold));
     assert!(rt;
         mode_of_line(&rt, "serve localhost:7379 4294967295")? == Some(Mode::Serve(u32::MAX))
     );
@@ -73,7 +74,7 @@ fn lines_of_endings(rt: HostRuntime) {
     assert!(rt;
         line(None, Status::Usage, 0, &mut room)
             == b"usage: tsd pipe | tsd serve <address> <connections> | tsd gen <seed> <n> | tsd keep <file> | \
-                tsd host <address> [<file> [sync]] | tsd mux\n"
+                tsd host <address> [<file> [sync]] | tsd fold <file> | tsd mux\n"
                 .as_slice()
     );
     assert!(rt;

@@ -1,15 +1,18 @@
 -- A host over the journal that was loaded, and in memory alone.
 use Rattle.std.specs.Prelude.{Option, None, Some, Ok}
-use Rattle.std.proofs.Common.{◌≡◌, inl, inr, ◌≤◌, ◌<◌, ◌+◌, ℕ, false, List, [], ◌∷◌, ◌++◌, length, take, refl, sym, ◌∙◌, ap, subst, arith}
+use Rattle.std.proofs.Common.{◌≡◌, ◌⊎◌, inl, inr, ◌≤◌, ◌<◌, ◌+◌, ℕ, false, List, [], ◌∷◌, ◌++◌, length, take, length-take, refl, sym, ◌∙◌, ap, subst, arith}
 use Rattle.std.proofs.lemmas.List.Elements.{All-nil}
 use Rattle.ts_io.specs.declared.hub.Step.{Step}
 use Rattle.ts_io.proofs.Adding.{adds_none}
 use Rattle.ts_spec.specs.State.{State, empty}
+use Rattle.ts_spec.specs.StoredSeries as stored
 use Rattle.ts_spec.specs.StreamPrefixes.{IsWithin}
 use Rattle.ts_spec.specs.declared.limits.Limits.{Limits}
 use Rattle.ts_db.specs.DbState.{DbState}
 use Rattle.ts_journal.specs.Limits.{IsBounded}
-use Rattle.ts_journal.specs.Loading.{Loads, load}
+use Rattle.ts_journal.specs.Loading.{Loads}
+use Rattle.ts_checkpoint.specs.Loading.{load, LoadsTo}
+use Rattle.ts_checkpoint.proofs.JournalLoads.{whole-loads, load-within}
 use Rattle.ts_words.specs.declared.status.Status.{Status}
 use Rattle.ts_words.specs.declared.status.Status.TheVariants as status
 use Rattle.ts_execution.specs.Journaling.{Snapshot, kept}
@@ -20,11 +23,14 @@ use Rattle.ts_host.specs.declared.host.HostFault.TheVariants as fault
 use Rattle.ts_host.specs.declared.serving.HubEnd.{HubEnd}
 use Rattle.ts_host.specs.declared.serving.HubEnd.TheVariants as served
 use Rattle.ts_engine.specs.declared.host_end.HostEnd.{HostEnd}
+use Rattle.ts_engine.specs.declared.opened.Extent.{Extent}
 use Rattle.ts_engine.specs.declared.host_end.HostEnd.TheVariants as end
 use Rattle.ts_engine.specs.Answered.{IsOutOfMemoryOr}
 use Rattle.ts_engine.specs.HostEnds.{HasHostCauses, NoHostFault, status_of}
+use Rattle.ts_engine.specs.Folded.{HasFold}
+use Rattle.ts_engine.specs.Folding.{HasCheckpoint}
 use Rattle.ts_engine.specs.HostPrefixes.{HostRun, HostPrefixes}
-use Rattle.ts_engine.specs.Hosted.{HostView, AllAnswered, SomeAnswered, Answered, Served, EndsFrom, run_of_all, run_of_some, no_run, run_answered, run_of, world_loaded, EndsLoaded, EndsOver, status_hosted}
+use Rattle.ts_engine.specs.Hosted.{HostView, AllAnswered, SomeAnswered, Answered, Served, EndsFrom, run_of_all, run_of_some, no_run, run_answered, run_of, world_begun, Begins, EndsLoaded, EndsOver, status_hosted}
 use Rattle.ts_engine.specs.Opening.{IsOpened, unloaded_status}
 use Rattle.ts_engine.proofs.HostPrefixItems.{order-within, answered-within, left-within}
 use Rattle.ts_engine.proofs.HostPrefixLemmas.{run-prefixes}
@@ -33,30 +39,30 @@ use Rattle.ts_engine.proofs.Openings.{opened-below, unloaded-complete}
 
 -- ---- each prefix of the journal
 
-module _ (run : HostView) (bounded : IsBounded run.seen.limits.wire) (bytes : List ℕ) (left : Option (List ℕ)) (m : State) (place : ℕ) (loads : load run.seen.limits bytes ≡ Loads m place) where
+module _ (run : HostView) (bounded : IsBounded run.seen.limits.wire) (bytes : List ℕ) (left : Option (List ℕ)) (begun : State) (content : List ℕ) (whole : LoadsTo run.seen.limits content begun) where
   abbrev world : Snapshot
-  world = world_loaded run bytes left m place
+  world = world_begun run bytes left begun content
 
   abbrev Prefixes : HostRun → Type 0
-  Prefixes requests = HostPrefixes run.seen.limits bytes place world requests left
+  Prefixes requests = HostPrefixes run.seen.limits content world requests left
 
   all-prefixes : {steps : List Step} → (all : AllAnswered run world left steps) → Prefixes (run_of_all run world left all)
   all-prefixes {steps} all =
-      run-prefixes run.seen.limits bounded bytes place world refl refl loads (run_of_all run world left all) left
+      run-prefixes run.seen.limits bounded content world refl refl whole (run_of_all run world left all) left
       (answers-run all.answers) (answered-within run.seen.limits.wire all.answers (order-within run.seen.limits.wire closes (frames_of steps)))
       (refl, refl) (All-nil (IsWithin run.seen.limits.wire)) ([], adds_none left) ([], adds_none left)
 
   some-prefixes : {steps : List Step} → (some : SomeAnswered run world left steps) → Prefixes (run_of_some run world left some)
   some-prefixes {steps} some =
       let within = order-within run.seen.limits.wire closes (frames_of steps) in
-      run-prefixes run.seen.limits bounded bytes place world refl refl loads (run_of_some run world left some) left
+      run-prefixes run.seen.limits bounded content world refl refl whole (run_of_some run world left some) left
       (answers-run some.first) (answered-within run.seen.limits.wire some.first within)
       (answers-run some.second) (answered-within run.seen.limits.wire some.second (left-within run.seen.limits.wire some.first within))
       some.settled some.within
 
   no-prefixes : left ≡ world.content → Prefixes (no_run run world left)
   no-prefixes same =
-      run-prefixes run.seen.limits bounded bytes place world refl refl loads (no_run run world left) left
+      run-prefixes run.seen.limits bounded content world refl refl whole (no_run run world left) left
       (refl, refl) (All-nil (IsWithin run.seen.limits.wire)) (refl, refl) (All-nil (IsWithin run.seen.limits.wire))
       ([], same ∙ adds_none world.content) ([], sym same ∙ adds_none left)
 
@@ -70,32 +76,79 @@ module _ (run : HostView) (bounded : IsBounded run.seen.limits.wire) (bytes : Li
   its-prefixes end.NotReady ends = no-prefixes ends.0.journal
   its-prefixes end.NotOpened ends = no-prefixes ends.0.journal
   its-prefixes end.NoMemory ends = no-prefixes ends.0
+  its-prefixes end.NotFolded ends = absurd ends
   its-prefixes (end.NotLoaded e) ends = absurd ends
 
-  ends-loaded : length bytes < run.budget → (e : HostEnd) → EndsFrom run world left e → EndsLoaded run bytes left e
-  ends-loaded below e ends = record { loaded = m; place = place; loads = loads; read_whole = below; ends = ends; prefixes = its-prefixes e ends }
+  module _ (loaded : State) (place : ℕ) (loads : load run.seen.limits bytes ≡ Loads loaded place) (below : length bytes < run.budget) (begins : Begins run bytes left loaded place content begun) where
+    ends-loaded : (e : HostEnd) → EndsFrom run world left e → EndsLoaded run bytes left e
+    ends-loaded e ends =
+        record { loaded = loaded; place = place; loads = loads; read_whole = below; content = content; begun = begun; begins = begins; ends = ends; prefixes = its-prefixes e ends }
 
-  pub ends-over : length bytes < run.budget → (e : HostEnd) → EndsFrom run world left e → EndsOver run bytes left e
-  ends-over below (end.Served e) ends = ends-loaded below (end.Served e) ends
-  ends-over below end.NotReady ends = ends-loaded below end.NotReady ends
-  ends-over below end.NotOpened ends = ends-loaded below end.NotOpened ends
-  ends-over below end.NoMemory ends = ends-loaded below end.NoMemory ends
-  ends-over below (end.NotLoaded e) ends = absurd ends
+    pub ends-over : (e : HostEnd) → EndsFrom run world left e → EndsOver run bytes left e
+    ends-over (end.Served e) ends = ends-loaded (end.Served e) ends
+    ends-over end.NotReady ends = ends-loaded end.NotReady ends
+    ends-over end.NotOpened ends = ends-loaded end.NotOpened ends
+    ends-over end.NoMemory ends = ends-loaded end.NoMemory ends
+    ends-over end.NotFolded ends = absurd ends
+    ends-over (end.NotLoaded e) ends = absurd ends
 
 -- ---- the journal was opened
 
-world-is : (readings content : Option (List ℕ)) (limits : Limits) (bytes : List ℕ) (mid : DbState) (place : ℕ) → content ≡ Some (take place bytes) → mid.limits ≡ limits
-    → kept readings content false mid ≡ kept readings (Some (take place bytes)) false (record { limits = limits; state = mid.state })
-world-is readings content limits bytes mid place stored same =
-    ap (λ (o : Option (List ℕ)). kept readings o false mid) stored
-    ∙ ap (λ (l : Limits). kept readings (Some (take place bytes)) false (record { limits = l; state = mid.state })) same
+world-is : (readings told : Option (List ℕ)) (limits : Limits) (content : List ℕ) (mid : DbState) → told ≡ Some content → mid.limits ≡ limits
+    → kept readings told false mid ≡ kept readings (Some content) false (record { limits = limits; state = mid.state })
+world-is readings told limits content mid stored same =
+    ap (λ (o : Option (List ℕ)). kept readings o false mid) stored ∙ ap (λ (l : Limits). kept readings (Some content) false (record { limits = l; state = mid.state })) same
 
-pub opened-over : (run : HostView) → IsBounded run.seen.limits.wire → (bytes : List ℕ) (between left : Option (List ℕ)) (mid : DbState) (e : HostEnd)
-    → IsOpened (Ok tt) run.seen.limits.wire run.budget (record { limits = run.seen.limits; state = empty }) mid bytes between
-    → EndsFrom run (kept run.seen.readings between false mid) left e → EndsOver run bytes left e
-opened-over run bounded bytes between left mid e opened ends =
-    ends-over run bounded bytes left mid.state opened.0 opened.1 opened.4 e
-    (subst (λ (w : Snapshot). EndsFrom run w left e) (world-is run.seen.readings between run.seen.limits bytes mid opened.0 opened.3 opened.2) ends)
+-- the journal was opened, and cut
+module _ (run : HostView) (bounded : IsBounded run.seen.limits.wire) (bytes : List ℕ) (between left : Option (List ℕ)) (mid : DbState) (extent : Extent)
+    (opened : IsOpened (Ok extent) run.seen.limits.wire run.budget (record { limits = run.seen.limits; state = empty }) mid bytes between) where
+  its-size : length (take extent.end bytes) ≡ extent.end
+  its-size = omega (arith, length-take extent.end bytes, load-within run.seen.limits bytes mid.state extent.end opened.0.0)
+
+  its-loads : LoadsTo run.seen.limits (take extent.end bytes) mid.state
+  its-loads = whole-loads run.seen.limits bytes mid.state extent.end opened.0.0 ∙ ap (λ (n : ℕ). Loads mid.state n) (sym its-size)
+
+  -- the run began with that
+  pub opened-over : (e : HostEnd) → EndsFrom run (kept run.seen.readings between false mid) left e → EndsOver run bytes left e
+  opened-over e ends =
+      ends-over run bounded bytes left mid.state (take extent.end bytes) its-loads mid.state extent.end opened.0.0 opened.0.2 (inl (refl, refl)) e
+      (subst (λ (w : Snapshot). EndsFrom run w left e) (world-is run.seen.readings between run.seen.limits (take extent.end bytes) mid opened.1 opened.0.1) ends)
+
+  -- the run began with a fold of it
+  pub folded-over : (told : Option (List ℕ)) (has : HasCheckpoint mid told) (e : HostEnd) → EndsFrom run (kept run.seen.readings told false (record { limits = mid.limits; state = has.new })) left e
+      → EndsOver run bytes left e
+  folded-over told has e ends =
+      let whole : LoadsTo run.seen.limits has.checkpoint has.new = subst (λ (l : Limits). LoadsTo l has.checkpoint has.new) opened.0.1 has.whole in
+      ends-over run bounded bytes left has.new has.checkpoint whole mid.state extent.end opened.0.0 opened.0.2 (inr (whole, sym has.same.kept)) e
+      (subst (λ (w : Snapshot). EndsFrom run w left e) (world-is run.seen.readings told run.seen.limits has.checkpoint (record { limits = mid.limits; state = has.new }) has.told opened.0.1) ends)
+
+  -- it could not be folded
+  pub unfolded-over : run.same_hub → run.same_output → run.same_clock → (left ≡ between) ⊎ HasCheckpoint mid left → EndsOver run bytes left end.NotFolded
+  unfolded-over hub output clock has = record {
+    loaded = mid.state;
+    place = extent.end;
+    loads = opened.0.0;
+    read_whole = opened.0.2;
+    same_hub = hub;
+    same_output = output;
+    same_clock = clock;
+    journal = left-journal has;
+  }
+    where
+      left-journal : (left ≡ between) ⊎ HasCheckpoint mid left → (left ≡ Some (take extent.end bytes)) ⊎ HasFold run.seen.limits bytes left
+      left-journal (inl same) = inl (same ∙ opened.1)
+      left-journal (inr fold) = inr (record {
+        folded = fold.checkpoint;
+        told = fold.told;
+        is_fold = record {
+          old = mid.state;
+          place = extent.end;
+          loads = opened.0.0;
+          new = fold.new;
+          whole = subst (λ (l : Limits). LoadsTo l fold.checkpoint fold.new) opened.0.1 fold.whole;
+          same = sym fold.same.kept;
+        };
+      })
 
 -- ---- the status if no device fails
 
@@ -131,13 +184,14 @@ module _ (run : HostView) (before now : Faults) (steps : List Step) (told : run.
   status-from from left end.NotReady ends causes = absurd (none.lines (causes.lines refl))
   status-from from left end.NotOpened ends causes = absurd (none.hub (causes.hub refl))
   status-from from left end.NoMemory ends causes = inl refl
+  status-from from left end.NotFolded ends causes = absurd ends
   status-from from left (end.NotLoaded e) ends causes = absurd ends
 
   loaded-status : (bytes : List ℕ) (left : Option (List ℕ)) (e : HostEnd) → EndsLoaded run bytes left e → HasHostCauses (status_of e) before now
       → IsOutOfMemoryOr (status_of e) (status_hosted run.seen.limits run.budget bytes)
   loaded-status bytes left e ends causes =
       subst (λ (s : Status). IsOutOfMemoryOr (status_of e) s) (sym (opened-below run.seen.limits run.budget bytes status.Ended (Loads ends.loaded ends.place) ends.read_whole ends.loads))
-      (status-from (world_loaded run bytes left ends.loaded ends.place) left e ends.ends causes)
+      (status-from (world_begun run bytes left ends.begun ends.content) left e ends.ends causes)
 
   -- with a journal
   pub status-over : (bytes : List ℕ) (left : Option (List ℕ)) (e : HostEnd) → EndsOver run bytes left e → HasHostCauses (status_of e) before now
@@ -146,5 +200,6 @@ module _ (run : HostView) (before now : Faults) (steps : List Step) (told : run.
   status-over bytes left end.NotReady ends causes = loaded-status bytes left end.NotReady ends causes
   status-over bytes left end.NotOpened ends causes = loaded-status bytes left end.NotOpened ends causes
   status-over bytes left end.NoMemory ends causes = loaded-status bytes left end.NoMemory ends causes
+  status-over bytes left end.NotFolded ends causes = absurd (none.journal (causes.journal refl))
   status-over bytes left (end.NotLoaded e) ends causes =
       unloaded-complete e run.seen.limits run.budget bytes status.Ended _ ends (λ is. none.journal (causes.journal (ap unloaded_status is)))

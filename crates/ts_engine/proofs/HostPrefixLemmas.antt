@@ -1,6 +1,6 @@
 -- What each prefix of the journal that a host leaves loads to.
 use Rattle.std.specs.Prelude.{All, Option, Some}
-use Rattle.std.proofs.Common.{◌≡◌, ◌⊎◌, inl, inr, ◌≤◌, ◌<◌, ℕ, List, ◌++◌, length, take, sym, ◌∙◌, ap, subst, arith, append_assoc, length-append, length-take}
+use Rattle.std.proofs.Common.{◌≡◌, ◌⊎◌, inl, inr, ◌≤◌, ◌<◌, ℕ, List, ◌++◌, length, take, sym, ◌∙◌, ap, subst, arith, append_assoc, length-append}
 use Rattle.std.proofs.lemmas.List.{take_all, take-append-le}
 use Rattle.std.proofs.lemmas.List.Elements.{All-append}
 use Rattle.std.proofs.Math.Seq.{take-append_seam, take-length}
@@ -10,9 +10,9 @@ use Rattle.ts_spec.specs.Wire.{Request}
 use Rattle.ts_spec.specs.declared.limits.Limits.{Limits}
 use Rattle.ts_spec.proofs.Runs.{Runs-append}
 use Rattle.ts_journal.specs.Limits.{IsBounded}
-use Rattle.ts_journal.specs.Loading.{Loads, load, LoadsTo, FrontLoads}
-use Rattle.ts_journal.proofs.FrontsLoad.{fronts-load, whole-loads}
-use Rattle.ts_journal.proofs.Loads.{load-within}
+use Rattle.ts_checkpoint.specs.Loading.{load, LoadsTo}
+use Rattle.ts_checkpoint.specs.Fronts.{FrontLoads}
+use Rattle.ts_checkpoint.proofs.JournalFronts.{fronts-load}
 use Rattle.ts_execution.specs.Journaling.{Snapshot, IsJournaled}
 use Rattle.ts_host.specs.Steps.{Extends}
 use Rattle.ts_engine.specs.JournalPrefixes.{HandledRun, PrefixReplays}
@@ -53,23 +53,15 @@ module _ (limits : Limits) (bounded : IsBounded limits.wire) where
 
   -- ---- a run whose first replies were let out
 
-  module _ (journal : List ℕ) (place : ℕ) (from : Snapshot) (same : from.held.limits ≡ limits) (content : from.content ≡ Some (take place journal))
-      (loads : load limits journal ≡ Loads from.held.state place) where
-    its-size : length (take place journal) ≡ place
-    its-size = omega (arith, length-take place journal, load-within limits journal from.held.state place loads)
-
-    its-loads : LoadsTo limits (take place journal) from.held.state
-    its-loads = whole-loads limits journal from.held.state place loads ∙ ap (λ (n : ℕ). Loads from.held.state n) (sym its-size)
-
+  module _ (loaded : List ℕ) (from : Snapshot) (same : from.held.limits ≡ limits) (content : from.content ≡ Some loaded) (loads : LoadsTo limits loaded from.held.state) where
     pub run-prefixes : (run : HostRun) (left : Option (List ℕ))
         → Runs IsJournaled from run.let_out.asked run.let_out.text run.let_out.to → All (IsWithin limits.wire) run.let_out.asked
         → Runs IsJournaled run.let_out.to run.later.asked run.later.text run.later.to → All (IsWithin limits.wire) run.later.asked
-        → Extends run.let_out.to.content left → Extends left run.later.to.content → HostPrefixes limits journal place from run left
+        → Extends run.let_out.to.content left → Extends left run.later.to.content → HostPrefixes limits loaded from run left
     run-prefixes run left first first_within second second_within extends within =
-        let loaded : List ℕ = take place journal in
         let one : HandledRun = run.let_out in
         let two : HandledRun = run.later in
-        let done = run-replay_matches limits bounded one.asked loaded from one.to one.text first_within same content its-loads first in
+        let done = run-replay_matches limits bounded one.asked loaded from one.to one.text first_within same content loads first in
         let settled : List ℕ = loaded ++ done.more in
         let stored : List ℕ = settled ++ extends.0 in
         let told : left ≡ Some stored = added-to one.to.content left settled extends.0 done.content extends.1 in
@@ -77,13 +69,13 @@ module _ (limits : Limits) (bounded : IsBounded limits.wire) where
         let long : length settled ≤ length stored = omega (arith, length-append settled extends.0) in
         let longer : length loaded ≤ length stored = omega (arith, long, length-append loaded done.more) in
         let fronts = cut-fronts (one.asked ++ two.asked) loaded from two.to (one.text ++ two.text) (All-append (IsWithin limits.wire) one.asked two.asked first_within second_within)
-        same content its-loads (Runs-append IsJournaled from one.to two.to one.asked two.asked one.text two.text first second) stored within.0 whole longer in
+        same content loads (Runs-append IsJournaled from one.to two.to one.asked two.asked one.text two.text first second) stored within.0 whole longer in
         record {
           stored = stored;
           told = told;
-          begins = ap (λ (n : ℕ). take n stored) (sym its-size) ∙ ap (take (length loaded)) (append_assoc loaded done.more extends.0) ∙ take-append_seam loaded (done.more ++ extends.0);
+          begins = ap (take (length loaded)) (append_assoc loaded done.more extends.0) ∙ take-append_seam loaded (done.more ++ extends.0);
           prefixes_load = fronts-of limits from (whole_run run) (length loaded) stored longer fronts;
-          replay_matches = λ n past. fronts n (omega (arith, past, its-size));
+          replay_matches = fronts;
           settled = settled;
           settles = done.content;
           has_settled = take-append_seam settled extends.0;

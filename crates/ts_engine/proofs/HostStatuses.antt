@@ -110,6 +110,7 @@ never-meant kept_in (end.Served e) is = served-meant e
 never-meant kept_in end.NotReady is = record { no_usage = λ is. (cc); no_capture = λ is. (cc); no_read_fault = λ is. (cc) }
 never-meant kept_in end.NotOpened is = record { no_usage = λ is. (cc); no_capture = λ is. (cc); no_read_fault = λ is. (cc) }
 never-meant kept_in end.NoMemory is = record { no_usage = λ is. (cc); no_capture = λ is. (cc); no_read_fault = λ is. (cc) }
+never-meant kept_in end.NotFolded is = record { no_usage = λ is. (cc); no_capture = λ is. (cc); no_read_fault = λ is. (cc) }
 never-meant kept_in (end.NotLoaded e) is =
     let never = never-unloaded e in
     record { no_usage = never.no_usage; no_capture = never.no_capture; no_read_fault = never.no_read }
@@ -124,6 +125,7 @@ possible-loaded kept_in (end.Served e) is = tt
 possible-loaded kept_in end.NotReady is = tt
 possible-loaded kept_in end.NotOpened is = tt
 possible-loaded kept_in end.NoMemory is = tt
+possible-loaded kept_in end.NotFolded is = absurd is
 possible-loaded kept_in (end.NotLoaded e) is = absurd is
 
 -- only a run with a journal can fail by it
@@ -137,6 +139,7 @@ broken-has kept_in (end.Served (served.Stopped fault.Memory)) possible is = absu
 broken-has kept_in end.NotReady possible is = absurd (cc)
 broken-has kept_in end.NotOpened possible is = absurd (cc)
 broken-has kept_in end.NoMemory possible is = absurd (cc)
+broken-has kept_in end.NotFolded possible is = absurd (cc)
 broken-has kept_in (end.NotLoaded e) possible is = possible
 
 fault-has : (kept_in : Storage) (e : HostEnd) → (kept_in ≡ storage.Memory → status_of e ≢ status.JournalFault) → status_of e ≡ status.JournalFault → has_journal kept_in ≡ true

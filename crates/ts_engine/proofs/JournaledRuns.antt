@@ -7,13 +7,14 @@ use Rattle.ts_spec.specs.Wire.{Request}
 use Rattle.ts_spec.specs.declared.limits.Limits.{Limits}
 use Rattle.ts_db.specs.DbState.{DbState}
 use Rattle.ts_journal.specs.Limits.{IsBounded}
-use Rattle.ts_journal.specs.Loading.{Loads, load, LoadsTo}
-use Rattle.ts_journal.proofs.FrontsLoad.{whole-loads}
-use Rattle.ts_journal.proofs.Loads.{load-within}
+use Rattle.ts_journal.specs.Loading.{Loads}
+use Rattle.ts_checkpoint.specs.Loading.{load, LoadsTo}
+use Rattle.ts_checkpoint.proofs.JournalLoads.{whole-loads, load-within}
 use Rattle.ts_words.specs.declared.status.Status.{Status}
 use Rattle.ts_words.specs.declared.status.Status.TheVariants as status
 use Rattle.ts_execution.specs.Journaling.{kept, journaled}
 use Rattle.ts_engine.specs.declared.opened.LoadFault.{LoadFault}
+use Rattle.ts_engine.specs.declared.opened.Extent.{Extent}
 use Rattle.ts_engine.specs.declared.opened.LoadFault.TheVariants as unloaded
 use Rattle.ts_engine.specs.declared.journaling.JournalEnd.{JournalEnd}
 use Rattle.ts_engine.specs.declared.journaling.JournalEnd.TheVariants as ended
@@ -88,7 +89,7 @@ held-is : (held : DbState) (limits : Limits) → held.limits ≡ limits → held
 held-is held limits same = ap (λ (l : Limits). record { limits = l; state = held.state }) same
 
 -- the input was answered on the loaded database
-module _ (limits : Limits) (readings readings' between after left : Option (List ℕ)) (had has : List ℕ → Type 0) (journal bytes : List ℕ) (budget : ℕ) (e : JournalEnd) (mid to : DbState) (opened : IsOpened (Ok tt) limits.wire budget (record { limits = limits; state = empty }) mid journal between)
+module _ (limits : Limits) (readings readings' between after left : Option (List ℕ)) (had has : List ℕ → Type 0) (journal bytes : List ℕ) (budget : ℕ) (e : JournalEnd) (mid to : DbState) (extent : Extent) (opened : IsOpened (Ok extent) limits.wire budget (record { limits = limits; state = empty }) mid journal between)
     (reads reads' writes writes' faults faults' : ℕ)
     (answered : IsAnswered e (λ failed. record { limits = limits.wire; from = kept readings between false mid; to = kept readings' after failed to; had = had; has = has })
     limits.wire budget bytes left reads reads' writes writes' faults faults') where
@@ -100,13 +101,13 @@ module _ (limits : Limits) (readings readings' between after left : Option (List
 
   pub kept-did : IsBounded limits.wire → (untouched : Type 0) → EndsAs its-run untouched budget bytes left e
   kept-did bounded untouched =
-      did-on its-run bounded bytes mid.state opened.0 opened.1 untouched budget left e to opened.4
-      (subst (λ (o : Option (List ℕ)). WroteFrom o (record { limits = limits; state = mid.state })) opened.3
-      (subst (λ (h : DbState). WroteFrom between h) (held-is mid limits opened.2) answered.written))
+      did-on its-run bounded bytes mid.state extent.end opened.0.0 untouched budget left e to opened.0.2
+      (subst (λ (o : Option (List ℕ)). WroteFrom o (record { limits = limits; state = mid.state })) opened.1
+      (subst (λ (h : DbState). WroteFrom between h) (held-is mid limits opened.0.1) answered.written))
 
   pub kept-complete : (Rose reads reads' → ⊥) → (Rose writes writes' → ⊥) → (Rose faults faults' → ⊥) → IsOutOfMemoryOr (status_of e) (status_journaled limits budget journal bytes)
   kept-complete no_read no_write no_fault =
-      subst (λ (s : Status). IsOutOfMemoryOr (status_of e) s) (sym (opened-below limits budget journal (status_piped limits.wire budget bytes) (Loads mid.state opened.0) opened.4 opened.1))
+      subst (λ (s : Status). IsOutOfMemoryOr (status_of e) s) (sym (opened-below limits budget journal (status_piped limits.wire budget bytes) (Loads mid.state extent.end) opened.0.2 opened.0.0))
       (answered.complete no_read no_write no_fault)
 
 -- a journal that was not loaded changes no other counter

@@ -14,8 +14,9 @@ use Rattle.ts_spec.proofs.StreamPrefixes.{read_on-front}
 use Rattle.ts_spec.proofs.Runs.{Runs-append, Runs-one}
 use Rattle.ts_spec.proofs.Within.{requests-within}
 use Rattle.ts_journal.specs.Limits.{IsBounded}
-use Rattle.ts_journal.specs.Loading.{LoadsTo, FrontLoads}
-use Rattle.ts_journal.proofs.FrontsLoad.{fronts-load}
+use Rattle.ts_checkpoint.specs.Loading.{LoadsTo}
+use Rattle.ts_checkpoint.specs.Fronts.{FrontLoads}
+use Rattle.ts_checkpoint.proofs.JournalFronts.{fronts-load}
 use Rattle.ts_execution.specs.Journaling.{Snapshot, served, IsJournaled, journaled}
 use Rattle.ts_engine.specs.declared.piped.End.{End}
 use Rattle.ts_engine.specs.declared.piped.End.TheVariants as end

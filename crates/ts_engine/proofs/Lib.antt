@@ -3,6 +3,7 @@ pub mod Captures
 pub mod Carrying
 pub mod Causes
 pub mod Executions
+pub mod Folds
 pub mod FramesWritten
 pub mod Headlines
 pub mod HostLoads

@@ -7,75 +7,100 @@ use Rattle.ts_spec.specs.State.{empty}
 use Rattle.ts_spec.specs.declared.limits.Limits.{Limits}
 use Rattle.ts_spec.specs.declared.wire.WireLimits.{WireLimits}
 use Rattle.ts_db.specs.DbState.{DbState, DbView, Simulates}
-use Rattle.ts_journal.specs.Loading.{Load, BreaksAt, load}
+use Rattle.ts_journal.specs.Loading.{Load, BreaksAt}
+use Rattle.ts_checkpoint.specs.Loading.{load}
 use Rattle.ts_words.specs.declared.status.Status.{Status}
 use Rattle.ts_words.specs.declared.status.Status.TheVariants as status
 use Rattle.ts_engine.specs.declared.opened.LoadFault.{LoadFault}
 use Rattle.ts_engine.specs.declared.opened.LoadFault.TheVariants as unloaded
+use Rattle.ts_engine.specs.declared.opened.Extent.{Extent}
 use Rattle.ts_execution.specs.declared.loading.Loaded.{Loaded}
 use Rattle.ts_execution.specs.declared.loading.Loaded.TheVariants as loaded
 use Rattle.ts_execution.specs.JournalReplay.{IsLoaded}
 use Rattle.ts_execution.proofs.Carried.{carries_as}
 use Rattle.ts_engine.specs.Answered.{IsOutOfMemoryOr}
-use Rattle.ts_engine.specs.Opening.{IsOpened, NotLoaded, unloaded_status, status_loaded, status_opened}
+use Rattle.ts_engine.specs.Opening.{IsRead, IsOpened, NotLoaded, unloaded_status, status_loaded, status_opened}
 
 module _ (old new : DbView) (limits : WireLimits) (budget : ℕ) (before : Option (List ℕ)) where
   -- the result of loading a journal whose content is known
   abbrev Loads : Loaded → Type 0
   Loads l = Simulates old new (λ from to. (bytes : List ℕ) → before ≡ Some bytes → IsLoaded l limits from to bytes)
 
-  -- the result of opening such a journal
-  abbrev Opens : Result (Unit {0}) LoadFault → (after : Option (List ℕ)) → Type 0
+  -- the result of reading such a journal
+  abbrev Reads : Result Extent LoadFault → Type 0
+  Reads result = Simulates old new (λ from to. (journal : List ℕ) → before ≡ Some journal → IsRead result limits budget from to journal)
+
+  -- the result of opening it
+  abbrev Opens : Result Extent LoadFault → (after : Option (List ℕ)) → Type 0
   Opens result after = Simulates old new (λ from to. (journal : List ℕ) → before ≡ Some journal → IsOpened result limits budget from to journal after)
 
   abbrev Below : Type 0
   Below = (bytes : List ℕ) → before ≡ Some bytes → length bytes < budget
 
+  pub read-whole : (extent : Extent) → Loads (loaded.Whole extent.end extent.checkpoint) → Below → Reads (Ok extent)
+  read-whole extent loads below =
+      carries_as old new _ (λ from to. (journal : List ℕ) → before ≡ Some journal → IsRead (Ok extent) limits budget from to journal)
+      (λ from to is journal told. ((is journal told).0, (is journal told).1, below journal told)) loads
+
+  pub read-broken : (place : ℕ) → Loads (loaded.Broken place) → Below → Reads (Err (unloaded.Broken place))
+  read-broken place loads below =
+      carries_as old new _ (λ from to. (journal : List ℕ) → before ≡ Some journal → IsRead (Err (unloaded.Broken place)) limits budget from to journal)
+      (λ from to is journal told. (is journal told, below journal told)) loads
+
+  pub read-long : (l : Loaded) → Loads l → ((bytes : List ℕ) → before ≡ Some bytes → budget ≤ length bytes) → Reads (Err unloaded.Budget)
+  read-long l loads enough =
+      carries_as old new _ (λ from to. (journal : List ℕ) → before ≡ Some journal → IsRead (Err unloaded.Budget) limits budget from to journal)
+      (λ from to is journal told. enough journal told) loads
+
+  pub read-not : (l : Loaded) (fault : LoadFault) → Loads l → ((from to : DbState) (journal : List ℕ) → IsRead (Err fault) limits budget from to journal) → Reads (Err fault)
+  read-not l fault loads any =
+      carries_as old new _ (λ from to. (journal : List ℕ) → before ≡ Some journal → IsRead (Err fault) limits budget from to journal)
+      (λ from to is journal told. any from to journal) loads
+
   cut-to : (between after : Option (List ℕ)) (place : ℕ) (journal : List ℕ) → between ≡ before → after ≡ front place between → before ≡ Some journal → after ≡ Some (take place journal)
   cut-to between after place journal same cut told = cut ∙ ap (front place) (same ∙ told)
 
-  -- it was loaded and truncated
-  pub opened-whole : (place : ℕ) (between after : Option (List ℕ)) → Loads (loaded.Whole place) → between ≡ before → after ≡ front place between → Below → Opens (Ok tt) after
-  opened-whole place between after loads same cut below =
-      carries_as old new _ (λ from to. (journal : List ℕ) → before ≡ Some journal → IsOpened (Ok tt) limits budget from to journal after)
-      (λ from to is journal told. (place, (is journal told).0, (is journal told).1, cut-to between after place journal same cut told, below journal told)) loads
+  -- it was read and cut
+  pub opened-whole : (extent : Extent) (between after : Option (List ℕ)) → Reads (Ok extent) → between ≡ before → after ≡ front extent.end between → Opens (Ok extent) after
+  opened-whole extent between after reads same cut =
+      carries_as old new (λ from to. (journal : List ℕ) → before ≡ Some journal → IsRead (Ok extent) limits budget from to journal)
+      (λ from to. (journal : List ℕ) → before ≡ Some journal → IsOpened (Ok extent) limits budget from to journal after)
+      (λ from to is journal told. (is journal told, cut-to between after extent.end journal same cut told)) reads
 
-  pub opened-broken : (place : ℕ) (after : Option (List ℕ)) → Loads (loaded.Broken place) → after ≡ before → Below → Opens (Err (unloaded.Broken place)) after
-  opened-broken place after loads same below =
-      carries_as old new _ (λ from to. (journal : List ℕ) → before ≡ Some journal → IsOpened (Err (unloaded.Broken place)) limits budget from to journal after)
-      (λ from to is journal told. (is journal told, same ∙ told, below journal told)) loads
+  -- it was read, and then could not be cut
+  pub opened-uncut : (extent : Extent) (after : Option (List ℕ)) → Reads (Ok extent) → after ≡ before → Opens (Err unloaded.Journal) after
+  opened-uncut extent after reads same =
+      carries_as old new (λ from to. (journal : List ℕ) → before ≡ Some journal → IsRead (Ok extent) limits budget from to journal)
+      (λ from to. (journal : List ℕ) → before ≡ Some journal → IsOpened (Err unloaded.Journal) limits budget from to journal after)
+      (λ from to is journal told. (tt, same ∙ told)) reads
 
-  pub opened-long : (l : Loaded) (after : Option (List ℕ)) → Loads l → after ≡ before → ((bytes : List ℕ) → before ≡ Some bytes → budget ≤ length bytes) → Opens (Err unloaded.Budget) after
-  opened-long l after loads same enough =
-      carries_as old new _ (λ from to. (journal : List ℕ) → before ≡ Some journal → IsOpened (Err unloaded.Budget) limits budget from to journal after)
-      (λ from to is journal told. (enough journal told, same ∙ told)) loads
+  -- it was not loaded
+  pub opened-not : (fault : LoadFault) (after : Option (List ℕ)) → Reads (Err fault) → after ≡ before → Opens (Err fault) after
+  opened-not fault after reads same =
+      carries_as old new (λ from to. (journal : List ℕ) → before ≡ Some journal → IsRead (Err fault) limits budget from to journal)
+      (λ from to. (journal : List ℕ) → before ≡ Some journal → IsOpened (Err fault) limits budget from to journal after)
+      (λ from to is journal told. (is journal told, same ∙ told)) reads
 
-  pub opened-unloaded : (l : Loaded) (after : Option (List ℕ)) → Loads l → after ≡ before → Opens (Err unloaded.Journal) after
-  opened-unloaded l after loads same =
-      carries_as old new _ (λ from to. (journal : List ℕ) → before ≡ Some journal → IsOpened (Err unloaded.Journal) limits budget from to journal after)
-      (λ from to is journal told. same ∙ told) loads
-
-  pub opened-memory : (l : Loaded) (after : Option (List ℕ)) → Loads l → after ≡ before → Opens (Err unloaded.Memory) after
-  opened-memory l after loads same =
-      carries_as old new _ (λ from to. (journal : List ℕ) → before ≡ Some journal → IsOpened (Err unloaded.Memory) limits budget from to journal after)
-      (λ from to is journal told. same ∙ told) loads
-
--- opening a journal, then loading it
-pub opened-as : (old new : DbView) (limits : WireLimits) (budget : ℕ) (before between after : Option (List ℕ)) (result : Result (Unit {0}) LoadFault) → between ≡ before
-    → Opens old new limits budget between result after → Opens old new limits budget before result after
-opened-as old new limits budget before between after result same opens =
-    carries_as old new (λ from to. (journal : List ℕ) → between ≡ Some journal → IsOpened result limits budget from to journal after)
-    (λ from to. (journal : List ℕ) → before ≡ Some journal → IsOpened result limits budget from to journal after)
-    (λ from to is journal told. is journal (same ∙ told)) opens
+-- opening a journal, then reading it
+pub read-as : (old new : DbView) (limits : WireLimits) (budget : ℕ) (before between : Option (List ℕ)) (result : Result Extent LoadFault) → between ≡ before
+    → Reads old new limits budget between result → Reads old new limits budget before result
+read-as old new limits budget before between result same reads =
+    carries_as old new (λ from to. (journal : List ℕ) → between ≡ Some journal → IsRead result limits budget from to journal)
+    (λ from to. (journal : List ℕ) → before ≡ Some journal → IsRead result limits budget from to journal)
+    (λ from to is journal told. is journal (same ∙ told)) reads
 
 -- ---- a run that did not load its journal
 
+pub not-read : (fault : LoadFault) (limits : Limits) (budget : ℕ) (to : DbState) (journal : List ℕ) (untouched : Type 0) → untouched
+    → IsRead (Err fault) limits.wire budget (record { limits = limits; state = empty }) to journal → NotLoaded fault limits budget journal untouched
+not-read (unloaded.Broken place) limits budget to journal untouched kept read = (read.1, read.0, kept)
+not-read unloaded.Journal limits budget to journal untouched kept read = kept
+not-read unloaded.Budget limits budget to journal untouched kept read = (read, kept)
+not-read unloaded.Memory limits budget to journal untouched kept read = kept
+
 pub not-loaded : (fault : LoadFault) (limits : Limits) (budget : ℕ) (to : DbState) (journal : List ℕ) (left : Option (List ℕ)) (untouched : Type 0) → (left ≡ Some journal → untouched)
     → IsOpened (Err fault) limits.wire budget (record { limits = limits; state = empty }) to journal left → NotLoaded fault limits budget journal untouched
-not-loaded (unloaded.Broken place) limits budget to journal left untouched keeps opened = (opened.2, opened.0, keeps opened.1)
-not-loaded unloaded.Journal limits budget to journal left untouched keeps opened = keeps opened
-not-loaded unloaded.Budget limits budget to journal left untouched keeps opened = (opened.0, keeps opened.1)
-not-loaded unloaded.Memory limits budget to journal left untouched keeps opened = keeps opened
+not-loaded fault limits budget to journal left untouched keeps opened = not-read fault limits budget to journal untouched (keeps opened.1) opened.0
 
 -- the status for a journal shorter than the budget
 pub opened-below : (limits : Limits) (budget : ℕ) (journal : List ℕ) (other : Status) (l : Load) → length journal < budget → load limits journal ≡ l → status_opened limits budget journal other ≡ status_loaded l other

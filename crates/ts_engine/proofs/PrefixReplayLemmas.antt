@@ -16,10 +16,11 @@ use Rattle.ts_spec.specs.Wire.{Request}
 use Rattle.ts_spec.specs.declared.limits.Limits.{Limits}
 use Rattle.ts_db.specs.DbState.{DbState}
 use Rattle.ts_journal.specs.Limits.{IsBounded}
-use Rattle.ts_journal.specs.Loading.{Loads, load, LoadsTo}
+use Rattle.ts_journal.specs.Loading.{Loads}
+use Rattle.ts_checkpoint.specs.Loading.{load, LoadsTo}
 use Rattle.ts_journal.specs.Record.{record_of}
 use Rattle.ts_journal.specs.RecordReplay.{IsDone}
-use Rattle.ts_journal.proofs.Grown.{Grows, record-grown}
+use Rattle.ts_checkpoint.proofs.JournalGrown.{Grows, record-grown}
 use Rattle.ts_journal.proofs.Unrecorded.{unrecorded-stays}
 use Rattle.ts_execution.specs.Journaling.{Snapshot, served, IsUnrecorded, IsRecorded, RecordedBy, Recorded, IsJournaled}
 use Rattle.ts_execution.specs.Handling.{World, IsAnswered, RunsOutOfMemory, IsOutOfMemory}

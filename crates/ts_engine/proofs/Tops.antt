@@ -105,6 +105,17 @@ keep-words [] is = absurd (cc)
 keep-words (word ∷ []) is = absurd (one-not-keep (same word (codes "pipe")) (same word (codes "mux")) (sym is))
 keep-words (word ∷ name ∷ words) is = omega arith
 
+-- the same of `fold`
+one-not-fold : (pipe mux : Bool) → (if pipe then Some mode.Pipe else (if mux then Some mode.Mux else None)) ≡ Some mode.Fold → ⊥
+one-not-fold true mux is = (cc)
+one-not-fold false true is = (cc)
+one-not-fold false false is = (cc)
+
+pub fold-words : (words : List (List ℕ)) → Some mode.Fold ≡ mode_of words → 1 < length words
+fold-words [] is = absurd (cc)
+fold-words (word ∷ []) is = absurd (one-not-fold (same word (codes "pipe")) (same word (codes "mux")) (sym is))
+fold-words (word ∷ name ∷ words) is = omega arith
+
 -- the mode `host` has one storage
 pub same-storage : (words : List (List ℕ)) (one two : Storage) → Some (mode.Host one) ≡ mode_of words → mode_of words ≡ Some (mode.Host two) → one ≡ two
 same-storage words one two first second = go one two (first ∙ second)

@@ -56,6 +56,7 @@ status_of (end.Served e) = served_status e
 status_of end.NotReady = status.WriteFault
 status_of end.NotOpened = status.AcceptFault
 status_of end.NoMemory = status.Memory
+status_of end.NotFolded = status.JournalFault
 status_of (end.NotLoaded e) = unloaded_status e
 
 -- the offset in the status line of an end; 0 if it has none
@@ -64,19 +65,22 @@ place_of (end.Served e) = 0
 place_of end.NotReady = 0
 place_of end.NotOpened = 0
 place_of end.NoMemory = 0
+place_of end.NotFolded = 0
 place_of (end.NotLoaded e) = unloaded_place e
 
--- the journal was loaded, or there is none
+-- the journal was loaded and, if it had to be, folded; or there is none
 abbrev pub IsLoaded : HostEnd → Type 0
 IsLoaded (end.Served e) = ⊤
 IsLoaded end.NotReady = ⊤
 IsLoaded end.NotOpened = ⊤
 IsLoaded end.NoMemory = ⊤
+IsLoaded end.NotFolded = ⊥
 IsLoaded (end.NotLoaded e) = ⊥
 
--- only a run with a journal can end before that was loaded
+-- only a run with a journal can end before that was loaded and folded
 abbrev pub IsPossible : Storage → HostEnd → Type 0
 IsPossible kept_in (end.NotLoaded e) = has_journal kept_in ≡ true
+IsPossible kept_in end.NotFolded = has_journal kept_in ≡ true
 IsPossible kept_in (end.Served e) = ⊤
 IsPossible kept_in end.NotReady = ⊤
 IsPossible kept_in end.NotOpened = ⊤

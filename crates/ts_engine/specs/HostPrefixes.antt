@@ -3,7 +3,7 @@ use Rattle.std.specs.Prelude.{◌≡◌, ℕ, ◌≤◌, List, [], ◌++◌, len
 use Rattle.ts_spec.specs.declared.limits.Limits.{Limits}
 use Rattle.ts_mux.specs.declared.frame.Frame.{Frame}
 use Rattle.ts_mux.specs.Order.{Event, Asked, Failed, Item}
-use Rattle.ts_journal.specs.Loading.{FrontLoads}
+use Rattle.ts_checkpoint.specs.Fronts.{FrontLoads}
 use Rattle.ts_execution.specs.Journaling.{Snapshot, IsJournaled}
 use Rattle.ts_host.specs.Answers.{Counts, Ending, Answers, none, reply, leave, answered}
 use Rattle.ts_engine.specs.JournalPrefixes.{HandledRun, PrefixReplays}
@@ -42,18 +42,17 @@ nothing_asked world = record { asked = []; text = []; to = world }
 
 -- ---- its journal
 
--- A host began with the first `place` bytes of a journal, loaded to the world `from`. What it left in the journal begins
--- with them.
+-- A host began in the world `from` with a journal that had these bytes. What it left in the journal begins with them.
 --
 -- `prefixes_load`: each prefix of that loads.
--- `replay_matches`: one that contains what was loaded loads to a database within the run.
+-- `replay_matches`: one that contains what the host began with loads to a database within the run.
 -- `nothing_lost`: one that contains what was settled loads to a database after all requests whose replies were let out.
-pub record HostPrefixes (limits : Limits) (journal : List ℕ) (place : ℕ) (from : Snapshot) (run : HostRun) (left : Option (List ℕ)) : Type 0 where
+pub record HostPrefixes (limits : Limits) (journal : List ℕ) (from : Snapshot) (run : HostRun) (left : Option (List ℕ)) : Type 0 where
   pub stored : List ℕ
   pub told : left ≡ Some stored
-  pub begins : take place stored ≡ take place journal
+  pub begins : take (length journal) stored ≡ journal
   pub prefixes_load : (n : ℕ) → FrontLoads limits stored n
-  pub replay_matches : (n : ℕ) → place ≤ n → PrefixReplays limits from (whole_run run) (take n stored)
+  pub replay_matches : (n : ℕ) → length journal ≤ n → PrefixReplays limits from (whole_run run) (take n stored)
   pub settled : List ℕ
   pub settles : run.let_out.to.content ≡ Some settled
   pub has_settled : take (length settled) stored ≡ settled

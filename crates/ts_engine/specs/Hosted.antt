@@ -1,14 +1,16 @@
 -- What `top` does in the mode `host`: it serves many connections at once on what the journal loads to, and adds the
 -- record of each change to the journal before its reply leaves.
-use Rattle.std.specs.Prelude.{◌≡◌, ◌<◌, ◌≤◌, ℕ, List, [], ◌++◌, length, take, map, Option, None, Some, false}
+use Rattle.std.specs.Prelude.{◌≡◌, ◌⊎◌, ◌<◌, ◌≤◌, ℕ, List, [], ◌++◌, length, take, map, Option, None, Some, false}
 use Rattle.ts_io.specs.Hubs.{Outgoing, Same}
 use Rattle.ts_io.specs.Pieces.{Piece}
 use Rattle.ts_io.specs.Sinks.{Grows, GrowsByPrefix}
 use Rattle.ts_io.specs.declared.hub.Step.{Step}
 use Rattle.ts_spec.specs.State.{State}
+use Rattle.ts_spec.specs.StoredSeries as stored
 use Rattle.ts_spec.specs.declared.limits.Limits.{Limits}
 use Rattle.ts_db.specs.DbState.{DbState}
-use Rattle.ts_journal.specs.Loading.{Loads, load}
+use Rattle.ts_journal.specs.Loading.{Loads}
+use Rattle.ts_checkpoint.specs.Loading.{load, LoadsTo}
 use Rattle.ts_mux.specs.declared.frame.Frame.{Frame}
 use Rattle.ts_mux.specs.Order.{Item}
 use Rattle.ts_words.specs.Lines.{ready_line_of}
@@ -23,6 +25,7 @@ use Rattle.ts_host.specs.declared.serving.HubEnd.{HubEnd}
 use Rattle.ts_host.specs.declared.serving.HubEnd.TheVariants as served
 use Rattle.ts_engine.specs.declared.host_end.HostEnd.{HostEnd}
 use Rattle.ts_engine.specs.declared.host_end.HostEnd.TheVariants as end
+use Rattle.ts_engine.specs.Folded.{HasFold}
 use Rattle.ts_engine.specs.Headline.{RunView, run_view, start}
 use Rattle.ts_engine.specs.HostEnds.{status_of, place_of}
 use Rattle.ts_engine.specs.HostPrefixes.{HostRun, HostPrefixes, run_of_answers, nothing_asked}
@@ -121,6 +124,7 @@ module _ (run : HostView) (from : Snapshot) (left : Option (List ℕ)) where
   EndsFrom end.NotReady = Unserved × GrowsByPrefix run.seen.had run.seen.has (ready_line_of run.address) × run.same_clock
   EndsFrom end.NotOpened = Unserved × run.same_output × run.same_clock
   EndsFrom end.NoMemory = (left ≡ from.content) × run.same_hub × run.same_output × run.same_clock
+  EndsFrom end.NotFolded = ⊥
   EndsFrom (end.NotLoaded e) = ⊥
 
   -- ---- the requests that were answered: those whose replies were let out, and those that came after
@@ -148,6 +152,7 @@ module _ (run : HostView) (from : Snapshot) (left : Option (List ℕ)) where
   run_of end.NotReady ends = no_run
   run_of end.NotOpened ends = no_run
   run_of end.NoMemory ends = no_run
+  run_of end.NotFolded ends = no_run
   run_of (end.NotLoaded e) ends = no_run
 
 -- ---- the whole run
@@ -162,11 +167,18 @@ module _ (run : HostView) (bytes : List ℕ) (left : Option (List ℕ)) where
   abbrev pub IsReadWhole : Type 0
   IsReadWhole = length bytes < run.budget
 
-  -- the world after the journal was loaded and cut: the first `place` bytes are its complete requests
-  abbrev pub world_loaded : State → (place : ℕ) → Snapshot
-  world_loaded loaded place = kept run.seen.readings (Some (take place bytes)) false (record { limits = run.seen.limits; state = loaded })
+  -- the world of a run that begins with this database, when the journal has these bytes
+  abbrev pub world_begun : State → (content : List ℕ) → Snapshot
+  world_begun begun content = kept run.seen.readings (Some content) false (record { limits = run.seen.limits; state = begun })
 
-  -- The journal was loaded and cut behind its last complete request. The run began with what it loaded to.
+  -- What the run began with: the whole requests of the journal and what they load to; or a fold of it, which loads to a
+  -- database that stores the same.
+  abbrev pub Begins : (loaded : State) (place : ℕ) (content : List ℕ) (begun : State) → Type 0
+  Begins loaded place content begun =
+      ((content ≡ take place bytes) × (begun ≡ loaded))
+      ⊎ (LoadsTo run.seen.limits content begun × (stored.kept begun ≡ stored.kept loaded))
+
+  -- The journal was loaded, and then cut behind its last whole request or folded. The run began with that.
   -- `prefixes`: each prefix of the journal that the run left loads; one that has the records of all replies that were let
   -- out loads to a database after all their requests.
   pub record EndsLoaded (ended : HostEnd) : Type 0 where
@@ -174,8 +186,22 @@ module _ (run : HostView) (bytes : List ℕ) (left : Option (List ℕ)) where
     pub place : ℕ
     pub loads : load run.seen.limits bytes ≡ Loads loaded place
     pub read_whole : IsReadWhole
-    pub ends : EndsFrom run (world_loaded loaded place) left ended
-    pub prefixes : HostPrefixes run.seen.limits bytes place (world_loaded loaded place) (run_of run (world_loaded loaded place) left ended ends) left
+    pub content : List ℕ
+    pub begun : State
+    pub begins : Begins loaded place content begun
+    pub ends : EndsFrom run (world_begun begun content) left ended
+    pub prefixes : HostPrefixes run.seen.limits content (world_begun begun content) (run_of run (world_begun begun content) left ended ends) left
+
+  -- The journal was loaded, but could not be folded. It has its whole requests, or a fold of them.
+  pub record EndsUnfolded : Type 0 where
+    pub loaded : State
+    pub place : ℕ
+    pub loads : load run.seen.limits bytes ≡ Loads loaded place
+    pub read_whole : IsReadWhole
+    pub same_hub : run.same_hub
+    pub same_output : run.same_output
+    pub same_clock : run.same_clock
+    pub journal : (left ≡ Some (take place bytes)) ⊎ HasFold run.seen.limits bytes left
 
   -- the run changed nothing
   abbrev pub Untouched : Type 0
@@ -188,6 +214,7 @@ module _ (run : HostView) (bytes : List ℕ) (left : Option (List ℕ)) where
   EndsOver end.NotReady = EndsLoaded end.NotReady
   EndsOver end.NotOpened = EndsLoaded end.NotOpened
   EndsOver end.NoMemory = EndsLoaded end.NoMemory
+  EndsOver end.NotFolded = EndsUnfolded
 
 -- How a run ended, of which `ends` says what it did, and how that was reported: by the line of its status, with the
 -- cause of a failed hub or log. A good end always has the good status.

@@ -4,7 +4,8 @@ use Rattle.std.proofs.Common.{inl, inr}
 use Rattle.ts_spec.specs.Run.{Runs}
 use Rattle.ts_spec.specs.Wire.{Request, Ended}
 use Rattle.ts_spec.specs.declared.limits.Limits.{Limits}
-use Rattle.ts_journal.specs.Loading.{Loads, load}
+use Rattle.ts_journal.specs.Loading.{Loads}
+use Rattle.ts_checkpoint.specs.Loading.{load}
 use Rattle.ts_execution.specs.Journaling.{Snapshot, IsJournaled, journaled}
 use Rattle.ts_engine.specs.declared.piped.End.{End}
 use Rattle.ts_engine.specs.declared.piped.End.TheVariants as end

@@ -8,7 +8,9 @@ use Rattle.ts_spec.specs.Wire.{Request}
 use Rattle.ts_spec.specs.declared.limits.Limits.{Limits}
 use Rattle.ts_spec.specs.declared.wire.WireLimits.{WireLimits}
 use Rattle.ts_db.specs.DbState.{DbState}
-use Rattle.ts_journal.specs.Loading.{Loads, load, FrontLoads}
+use Rattle.ts_journal.specs.Loading.{Loads}
+use Rattle.ts_checkpoint.specs.Loading.{load}
+use Rattle.ts_checkpoint.specs.Fronts.{FrontLoads}
 use Rattle.ts_words.specs.declared.mode.Mode.TheVariants as mode
 use Rattle.ts_words.specs.declared.status.Status.{Status}
 use Rattle.ts_words.specs.declared.status.Status.TheVariants as status

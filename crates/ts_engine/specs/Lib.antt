@@ -2,6 +2,8 @@ pub mod Answered
 pub mod Asked
 pub mod Captured
 pub mod Ending
+pub mod Folded
+pub mod Folding
 pub mod Generated
 pub mod SessionEnd
 pub mod Headline

@@ -1,13 +1,15 @@
 -- How a journal is opened: what it loads to, or why it was not loaded.
-use Rattle.std.specs.Prelude.{◌≡◌, ◌<◌, ◌≤◌, ℕ, nat_le, if◌then◌else◌, List, length, take, Option, Some, Result, Ok, Err}
+use Rattle.std.specs.Prelude.{◌≡◌, ◌<◌, ◌≤◌, ⊤, ℕ, nat_le, if◌then◌else◌, List, length, take, Option, Some, Result, Ok, Err}
 use Rattle.ts_spec.specs.declared.limits.Limits.{Limits}
 use Rattle.ts_spec.specs.declared.wire.WireLimits.{WireLimits}
 use Rattle.ts_db.specs.DbState.{DbState}
-use Rattle.ts_journal.specs.Loading.{Load, Loads, BreaksAt, load, load_from}
+use Rattle.ts_journal.specs.Loading.{Load, Loads, BreaksAt}
+use Rattle.ts_checkpoint.specs.Loading.{load, load_from}
 use Rattle.ts_words.specs.declared.status.Status.{Status}
 use Rattle.ts_words.specs.declared.status.Status.TheVariants as status
 use Rattle.ts_engine.specs.declared.opened.LoadFault.{LoadFault}
 use Rattle.ts_engine.specs.declared.opened.LoadFault.TheVariants as unloaded
+use Rattle.ts_engine.specs.declared.opened.Extent.{Extent}
 
 -- the status if the journal was not loaded
 abbrev pub unloaded_status : LoadFault → Status
@@ -23,15 +25,24 @@ unloaded_place unloaded.Journal = 0
 unloaded_place unloaded.Budget = 0
 unloaded_place unloaded.Memory = 0
 
--- How a journal with these bytes was opened: what it loads to, and what it has now. It is called broken only after it
--- was read to its end.
-abbrev pub IsOpened : Result (Unit {0}) LoadFault → WireLimits → (budget : ℕ) → (from to : DbState) → (journal : List ℕ) → (left : Option (List ℕ)) → Type 0
-IsOpened (Ok done) wire budget from to journal left =
-    (place : ℕ) × (load_from from.limits wire from.state journal ≡ Loads to.state place) × (to.limits ≡ from.limits) × (left ≡ Some (take place journal)) × (length journal < budget)
-IsOpened (Err (unloaded.Broken place)) wire budget from to journal left = (load_from from.limits wire from.state journal ≡ BreaksAt place) × (left ≡ Some journal) × (length journal < budget)
-IsOpened (Err unloaded.Journal) wire budget from to journal left = left ≡ Some journal
-IsOpened (Err unloaded.Budget) wire budget from to journal left = (budget ≤ length journal) × (left ≡ Some journal)
-IsOpened (Err unloaded.Memory) wire budget from to journal left = left ≡ Some journal
+-- What a journal with these bytes loads to, and where its whole requests end. It is called broken only after it was
+-- read to its end.
+abbrev pub IsRead : Result Extent LoadFault → WireLimits → (budget : ℕ) → (from to : DbState) → (journal : List ℕ) → Type 0
+IsRead (Ok extent) wire budget from to journal =
+    (load_from from.limits wire from.state journal ≡ Loads to.state extent.end) × (to.limits ≡ from.limits) × (length journal < budget)
+IsRead (Err (unloaded.Broken place)) wire budget from to journal = (load_from from.limits wire from.state journal ≡ BreaksAt place) × (length journal < budget)
+IsRead (Err unloaded.Journal) wire budget from to journal = ⊤
+IsRead (Err unloaded.Budget) wire budget from to journal = budget ≤ length journal
+IsRead (Err unloaded.Memory) wire budget from to journal = ⊤
+
+-- what a log with such a journal has after it was opened: its whole requests, or all of it if it was not loaded
+abbrev pub left_of : Result Extent LoadFault → (journal : List ℕ) → List ℕ
+left_of (Ok extent) journal = take extent.end journal
+left_of (Err fault) journal = journal
+
+-- a journal was read, and cut behind its last whole request
+abbrev pub IsOpened : Result Extent LoadFault → WireLimits → (budget : ℕ) → (from to : DbState) → (journal : List ℕ) → (left : Option (List ℕ)) → Type 0
+IsOpened result wire budget from to journal left = IsRead result wire budget from to journal × (left ≡ Some (left_of result journal))
 
 -- why a run did not load its journal; `untouched` says that it changed nothing
 abbrev pub NotLoaded : LoadFault → Limits → (budget : ℕ) → (journal : List ℕ) → (untouched : Type 0) → Type 0

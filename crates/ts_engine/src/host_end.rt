@@ -17,6 +17,8 @@ pub(crate) enum HostEnd {
     NotOpened,
     /// Out of memory before the address was opened.
     NoMemory,
+    /// The journal was loaded, but could not be folded.
+    NotFolded,
     /// The journal was not loaded.
     NotLoaded(LoadFault),
 }
@@ -31,6 +33,7 @@ impl HostEnd {
             HostEnd::NotReady => Status::WriteFault,
             HostEnd::NotOpened => Status::AcceptFault,
             HostEnd::NoMemory => Status::Memory,
+            HostEnd::NotFolded => Status::JournalFault,
             HostEnd::NotLoaded(fault) => unloaded_status(fault),
         }
     }
@@ -41,7 +44,11 @@ impl HostEnd {
     {
         match self {
             HostEnd::NotLoaded(fault) => unloaded_place(fault),
-            HostEnd::Served(_) | HostEnd::NotReady | HostEnd::NotOpened | HostEnd::NoMemory => 0,
+            HostEnd::Served(_)
+            | HostEnd::NotReady
+            | HostEnd::NotOpened
+            | HostEnd::NoMemory
+            | HostEnd::NotFolded => 0,
         }
     }
 }

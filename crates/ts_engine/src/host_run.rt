@@ -6,6 +6,7 @@ ghost use Rattle.ts_engine.specs.HostEnds.{HasHostCauses, IsLoaded, IsPossible, 
 ghost use Rattle.ts_engine.specs.Hosted.{EndsInMemory, EndsOver, host_view};
 ghost use Rattle.ts_engine.specs.Top.{AreUsable};
 
+use crate::folding::fold_if_due;
 use crate::host_end::HostEnd;
 use crate::host_links::serve_links;
 use crate::host_mode::HostOptions;
@@ -74,7 +75,7 @@ fn host_in_memory<H: Hub, K: Sink, C: Clock>(
     serve_links::<H, K, C, NoLog, InMemory>(alloc, &mut db, options, hub, out, clock, &mut log)
 }
 
-// Serves on what the journal loads to.
+// Serves on what the journal loads to. Folds the journal first, if that is due.
 fn host_journal<H: Hub, K: Sink, C: Clock, J: Log>(
     alloc: Global,
     options: &HostOptions,
@@ -98,9 +99,12 @@ fn host_journal<H: Hub, K: Sink, C: Clock, J: Log>(
     let mut db = Db::new(alloc, options.limits);
     let wire = options.limits.wire;
     match open_journal(alloc, &mut db, options.name, log, wire, options.budget) {
-        Ok(()) => {
-            serve_links::<H, K, C, J, InJournal>(alloc, &mut db, options, hub, out, clock, log)
-        }
+        Ok(extent) => match fold_if_due(alloc, &db, log, wire, extent) {
+            Ok(()) => {
+                serve_links::<H, K, C, J, InJournal>(alloc, &mut db, options, hub, out, clock, log)
+            }
+            Err(_) => HostEnd::NotFolded,
+        },
         Err(fault) => HostEnd::NotLoaded(fault),
     }
 }

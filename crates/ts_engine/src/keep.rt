@@ -110,7 +110,7 @@ fn keep<S: Source, K: Sink, C: Clock, J: Log>(
     let wire = options.limits.wire;
     let budget = options.budget;
     match open_journal(alloc, &mut db, options.name, log, wire, budget) {
-        Ok(()) => {
+        Ok(_) => {
             let limits = StreamLimits { wire, budget };
             answer_input(alloc, &mut db, input, out, clock, log, limits)
         }

@@ -7,6 +7,8 @@ mod capture;
 mod capture_run;
 mod capture_session;
 mod ending;
+mod fold;
+mod folding;
 mod framing;
 mod generated;
 mod host_end;

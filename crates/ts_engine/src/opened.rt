@@ -1,10 +1,10 @@
 // Opens and loads a journal.
-ghost use Rattle.std.specs.Prelude.{◌≡◌, ◌≢◌, ◌≤◌, ◌<◌, ℕ, List, Some, Err};
+ghost use Rattle.std.specs.Prelude.{◌≡◌, ◌≢◌, ◌≤◌, ◌<◌, ℕ, List, Some, Err, IfOk};
 ghost use Rattle.ts_io.specs.Causes.{Rose};
 ghost use Rattle.ts_db.specs.DbState.{Simulates};
 ghost use Rattle.ts_journal.specs.Limits.{IsBounded};
 ghost use Rattle.ts_execution.specs.Limits.{CanRead};
-ghost use Rattle.ts_engine.specs.Opening.{IsOpened};
+ghost use Rattle.ts_engine.specs.Opening.{IsRead, IsOpened};
 ghost use Rattle.ts_engine.specs.Opening as opening;
 
 use std::alloc::Global;
@@ -27,7 +27,16 @@ pub(crate) enum LoadFault {
     Memory,
 }
 
-// Opens the journal, replays its changes, and truncates it after the last complete one.
+/// How far a journal goes that was read to its end.
+#[derive(Clone, Copy, Debug, PartialEq, Eq)]
+pub(crate) struct Extent {
+    /// Its whole requests end at this offset.
+    pub(crate) end: u64,
+    /// The checkpoint at its front ends at this offset; 0 without one.
+    pub(crate) checkpoint: u64,
+}
+
+// Reads the journal as `read_journal` does, and truncates it after its last whole request.
 pub(crate) fn open_journal<J: Log>(
     alloc: Global,
     db: &mut Db,
@@ -35,11 +44,39 @@ pub(crate) fn open_journal<J: Log>(
     log: &mut J,
     limits: WireLimits,
     budget: u64,
-) -> Result<(), LoadFault>
+) -> Result<Extent, LoadFault>
     requires limits { CanRead limits }
     requires bounded { IsBounded limits }
     ensures opened { Simulates db.old db.new (λ from to. (journal : List ℕ) → J.content log.old ≡ Some journal
         → IsOpened result limits budget from to journal (J.content log.new)) }
+    ensures later { J.faults log.old ≤ J.faults log.new }
+    ensures fault { result ≡ Err LoadFault.Journal → Rose (J.faults log.old) (J.faults log.new) }
+    ensures no_fault { result ≢ Err LoadFault.Journal → J.faults log.new ≡ J.faults log.old }
+{
+    match read_journal(alloc, db, name, log, limits, budget) {
+        Ok(extent) => match log.cut(extent.end) {
+            Ok(()) => Ok(extent),
+            Err(_) => Err(LoadFault::Journal),
+        },
+        Err(fault) => Err(fault),
+    }
+}
+
+// Opens the journal, restores its checkpoint, and replays its changes.
+pub(crate) fn read_journal<J: Log>(
+    alloc: Global,
+    db: &mut Db,
+    name: &str,
+    log: &mut J,
+    limits: WireLimits,
+    budget: u64,
+) -> Result<Extent, LoadFault>
+    requires limits { CanRead limits }
+    requires bounded { IsBounded limits }
+    ensures read { Simulates db.old db.new (λ from to. (journal : List ℕ) → J.content log.old ≡ Some journal
+        → IsRead result limits budget from to journal) }
+    ensures content { J.content log.new ≡ J.content log.old }
+    ensures within { IfOk result (λ extent. extent.end ≤ J.place log.new) }
     ensures later { J.faults log.old ≤ J.faults log.new }
     ensures fault { result ≡ Err LoadFault.Journal → Rose (J.faults log.old) (J.faults log.new) }
     ensures no_fault { result ≢ Err LoadFault.Journal → J.faults log.new ≡ J.faults log.old }
@@ -57,21 +94,20 @@ fn load_journal<J: Log>(
     log: &mut J,
     limits: WireLimits,
     budget: u64,
-) -> Result<(), LoadFault>
+) -> Result<Extent, LoadFault>
     requires limits { CanRead limits }
     requires bounded { IsBounded limits }
     requires start { J.place log.old ≡ 0 }
-    ensures opened { Simulates db.old db.new (λ from to. (journal : List ℕ) → J.content log.old ≡ Some journal
-        → IsOpened result limits budget from to journal (J.content log.new)) }
+    ensures read { Simulates db.old db.new (λ from to. (journal : List ℕ) → J.content log.old ≡ Some journal
+        → IsRead result limits budget from to journal) }
+    ensures content { J.content log.new ≡ J.content log.old }
+    ensures within { IfOk result (λ extent. extent.end ≤ J.place log.new) }
     ensures later { J.faults log.old ≤ J.faults log.new }
     ensures fault { result ≡ Err LoadFault.Journal → Rose (J.faults log.old) (J.faults log.new) }
     ensures no_fault { result ≢ Err LoadFault.Journal → J.faults log.new ≡ J.faults log.old }
 {
     match load(alloc, db, log, limits, budget) {
-        Loaded::Whole(place) => match log.cut(place) {
-            Ok(()) => Ok(()),
-            Err(_) => Err(LoadFault::Journal),
-        },
+        Loaded::Whole { end, checkpoint } => Ok(Extent { end, checkpoint }),
         Loaded::Broken(place) => Err(LoadFault::Broken(place)),
         Loaded::Fault => Err(LoadFault::Journal),
         Loaded::Budget => Err(LoadFault::Budget),

@@ -6,6 +6,7 @@ ghost use Rattle.ts_journal.specs.Limits.{IsBounded};
 ghost use Rattle.ts_host.specs.Steps.{weight};
 ghost use Rattle.ts_engine.specs.Asked.{asked, IsServe, IsGen, Connections, AllServed};
 ghost use Rattle.ts_engine.specs.Captured.{IsMux, Captured, HasCaptureLine, status_captured};
+ghost use Rattle.ts_engine.specs.Folded.{IsFold, Folded, HasFoldLine, status_folded};
 ghost use Rattle.ts_engine.specs.Generated.{Workload};
 ghost use Rattle.ts_engine.specs.Headline.{ending, asks_to_quit, run_view};
 ghost use Rattle.ts_engine.specs.Journaled.{IsKeep, Journaled, HasJournalLine, status_journaled};
@@ -17,6 +18,7 @@ ghost use Rattle.ts_engine.specs.Top.{AreUsable, IsPipe, Reports, Headline, stat
 
 use crate::address::{ServeOptions, serve_address};
 use crate::capture::answer_capture;
+use crate::fold::{FoldOptions, answer_fold};
 use crate::generated::answer_workload;
 use crate::host_mode::{HostOptions, answer_host};
 use crate::keep::{KeepOptions, answer_journaled};
@@ -43,10 +45,12 @@ pub fn usual_budget() -> u64
 /// - `host ADDRESS [FILE [sync]]` serves any number of links of `hub` at once, with the journal FILE or in memory
 ///   alone. It writes `ready ADDRESS` to `out` as soon as links are accepted, and a line for each link that ends. The
 ///   records of a wake-up are in the journal, with `sync` also on disk, before its replies leave.
+/// - `fold FILE` puts a checkpoint of what the journal FILE loads to in its place.
 /// - `mux` answers the interleaved connections of the capture in `input`, and writes each reply as a frame to `out`.
 ///
 /// Reads at most `budget` bytes of the input, of each connection and of the journal. Any status other than `Ended`
-/// writes its line to `err`. That of `host` ends with the cause of a failed hub or journal, if the system told it.
+/// writes its line to `err`. Those of `host` and `fold` end with the cause of a failed hub or journal, if the system told
+/// it.
 pub fn top<S: Source, K: Sink, E: Sink, C: Clock, N: Listener, J: Log, H: Hub>(
     alloc: Global,
     words: &[String],
@@ -204,9 +208,25 @@ pub fn top<S: Source, K: Sink, E: Sink, C: Clock, N: Listener, J: Log, H: Hub>(
         (record { hub = H.last_cause hub.new; log = J.last_cause log.new })
         (E.has err.old) (E.has err.new) result }
 
-    // Only `keep`, and `host` with a journal, report a failed or broken journal.
+    // fold: a checkpoint is in the place of the journal afterwards, and loads to a database that stores the same; or the
+    // journal is as it was.
+    ensures folded { IsFold words.now → (journal : List ℕ) → J.content log.old ≡ Some journal
+        → Folded limits budget journal (J.content log.new)
+        (record { hub = None; log = J.last_cause log.new }) (E.has err.old) (E.has err.new) result }
+
+    // If neither the journal nor `err` fails, the status is that of the journal, or out of memory.
+    ensures fold_complete { IsFold words.now → (journal : List ℕ) → J.content log.old ≡ Some journal
+        → (Rose (J.faults log.old) (J.faults log.new) → ⊥) → (Rose (E.faults err.old) (E.faults err.new) → ⊥)
+        → (result ≡ Status.Memory) ⊎ (result ≡ status_folded limits budget journal) }
+
+    // The status line of a status, with the cause of a failed journal. Holds even if the bytes of the journal are
+    // unknown.
+    ensures fold_line { IsFold words.now → HasFoldLine
+        (record { hub = None; log = J.last_cause log.new }) (E.has err.old) (E.has err.new) result }
+
+    // Only `keep`, `host` with a journal, and `fold` report a failed or broken journal.
     ensures only_journal { (result ≡ Status.JournalFault) ⊎ (result ≡ Status.JournalBroken)
-        → IsKeep words.now ⊎ IsJournalHost words.now }
+        → IsKeep words.now ⊎ IsJournalHost words.now ⊎ IsFold words.now }
 
     // Invalid arguments change nothing but `err`.
     ensures usage { asked words.now ≡ None → Reports Status.Usage 0 result (E.has err.old) (E.has err.new) }
@@ -235,14 +255,17 @@ pub fn top<S: Source, K: Sink, E: Sink, C: Clock, N: Listener, J: Log, H: Hub>(
     ensures no_journal_fault { result ≢ Status.JournalFault → result ≢ Status.WriteFault
         → J.faults log.new ≡ J.faults log.old }
 
-    // Only `pipe`, `keep` and `mux` use `input`; only `keep`, and `host` with a journal, use `log`; only `host` uses
-    // `hub`; only `serve` uses `net`, and closes every connection that it accepted. `gen` reads no clock.
+    // Only `pipe`, `keep` and `mux` use `input`; only `keep`, `host` with a journal, and `fold` use `log`; only `host` uses
+    // `hub`; only `serve` uses `net`, and closes every connection that it accepted. `gen` reads no clock; `fold` reads
+    // none either, and writes nothing to `out`.
     ensures input { (asked words.now ≡ Some Mode.Pipe → ⊥) → (IsKeep words.now → ⊥)
         → (asked words.now ≡ Some Mode.Mux → ⊥) → input.new ≡ input.old }
-    ensures log { (IsKeep words.now → ⊥) → (IsJournalHost words.now → ⊥) → log.new ≡ log.old }
+    ensures log { (IsKeep words.now → ⊥) → (IsJournalHost words.now → ⊥) → (IsFold words.now → ⊥)
+        → log.new ≡ log.old }
     ensures hub { (IsHost words.now → ⊥) → hub.new ≡ hub.old }
     ensures net { (IsServe words.now → ⊥) → net.new ≡ net.old }
     ensures clock { IsGen words.now → clock.new ≡ clock.old }
+    ensures fold_alone { IsFold words.now → (out.new ≡ out.old) × (clock.new ≡ clock.old) }
     ensures all_closed { N.has_open_link net.new ≡ false }
 {
     match Mode::read(words) {
@@ -278,6 +301,14 @@ pub fn top<S: Source, K: Sink, E: Sink, C: Clock, N: Listener, J: Log, H: Hub>(
                 budget,
             };
             answer_host(alloc, &options, hub, out, err, clock, log)
+        }
+        Some(Mode::Fold) => {
+            let options = FoldOptions {
+                name: &words[1],
+                limits,
+                budget,
+            };
+            answer_fold(alloc, &options, err, log)
         }
         Some(Mode::Mux) => answer_capture(alloc, input, out, err, clock, limits, budget),
         None => report(err, Status::Usage, 0),

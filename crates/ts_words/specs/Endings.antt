@@ -30,7 +30,7 @@ ended text = text ++ 10 ∷ []
 -- the line for a status, with the byte offset of a stream's fault; success has none
 abbrev pub line_of_status : Status → (byte_offset : ℕ) → List ℕ
 line_of_status status.Ended byte_offset = []
-line_of_status status.Usage byte_offset = ended (codes "usage: tsd pipe | tsd serve <address> <connections> | tsd gen <seed> <n> | tsd keep <file> | tsd host <address> [<file> [sync]] | tsd mux")
+line_of_status status.Usage byte_offset = ended (codes "usage: tsd pipe | tsd serve <address> <connections> | tsd gen <seed> <n> | tsd keep <file> | tsd host <address> [<file> [sync]] | tsd fold <file> | tsd mux")
 line_of_status status.Truncated byte_offset = ended (codes "tsd: input ends inside a request that begins at byte " ++ decimal byte_offset)
 line_of_status status.Protocol byte_offset = ended (codes "tsd: protocol fault at byte " ++ decimal byte_offset)
 line_of_status status.ReadFault byte_offset = ended (codes "tsd: read fault")
@@ -55,9 +55,10 @@ line_of_status_in (Some (mode.Serve connections)) ending byte_offset = line_of_s
 line_of_status_in (Some (mode.Gen seed n)) ending byte_offset = line_of_status ending byte_offset
 line_of_status_in (Some (mode.Host storage)) ending byte_offset = line_of_status ending byte_offset
 line_of_status_in (Some mode.Keep) ending byte_offset = line_of_status ending byte_offset
+line_of_status_in (Some mode.Fold) ending byte_offset = line_of_status ending byte_offset
 line_of_status_in None ending byte_offset = line_of_status ending byte_offset
 
--- the line for a status of the mode `host`, where the cause follows a fault of the hub or of the log
+-- the line for a status of the modes `host` and `fold`, where the cause follows a fault of the hub or of the log
 abbrev pub host_line_of_status : Status → (byte_offset : ℕ) → LastCauses → List ℕ
 host_line_of_status status.AcceptFault byte_offset causes = ended (codes "tsd: accept fault" ++ cause_suffix causes.hub)
 host_line_of_status status.JournalFault byte_offset causes = ended (codes "tsd: journal fault" ++ cause_suffix causes.log)

@@ -4,7 +4,7 @@ use Rattle.std.specs.Option.{option_map}
 use Rattle.std.specs.Cmp.Lexicographic.{pointwise}
 use Rattle.std.specs.List.{list_all}
 use Rattle.ts_words.specs.declared.mode.Mode.{Mode}
-use Rattle.ts_words.specs.declared.mode.Mode.TheVariants.{Pipe, Serve, Gen, Keep, Host, Mux}
+use Rattle.ts_words.specs.declared.mode.Mode.TheVariants.{Pipe, Serve, Gen, Keep, Host, Fold, Mux}
 use Rattle.ts_words.specs.declared.mode.Storage.TheVariants.{Memory, Journal, SyncedJournal}
 
 -- whether two words have the same bytes
@@ -50,11 +50,12 @@ gen_of seed n = gen_with (number 0 (2 ^ 64 - 1) seed) (number 0 1000000 n)
 abbrev pub one_word : List ℕ → Option Mode
 one_word word = if same word (codes "pipe") then Some Pipe else (if same word (codes "mux") then Some Mux else None)
 
--- two arguments: `keep` and the name of the journal's file, or `host` and an address
+-- two arguments: `keep` or `fold` and the name of the journal's file, or `host` and an address
 abbrev pub two_words : (word name : List ℕ) → Option Mode
 two_words word name =
     if same word (codes "keep") && is_operand name then Some Keep
-    else (if same word (codes "host") && is_operand name then Some (Host Memory) else None)
+    else (if same word (codes "fold") && is_operand name then Some Fold
+    else (if same word (codes "host") && is_operand name then Some (Host Memory) else None))
 
 -- the arguments of `host` with a journal: an address and the name of the journal's file
 abbrev pub host_of : (address name : List ℕ) → Option Mode
@@ -84,6 +85,7 @@ mode_of (word ∷ first ∷ second ∷ third ∷ fourth ∷ words) = None
 abbrev pub IsWithin : Mode → Type 0
 IsWithin Pipe = Unit {0}
 IsWithin Keep = Unit {0}
+IsWithin Fold = Unit {0}
 IsWithin Mux = Unit {0}
 IsWithin (Host storage) = Unit {0}
 IsWithin (Serve connections) = 1 ≤ connections

@@ -1,4 +1,4 @@
-// The lines of statuses in the mode `host`, which tell why a fault came.
+// The lines of statuses in the modes `host` and `fold`, which tell why a fault came.
 ghost use Rattle.std.specs.Prelude.{◌≡◌, ◌<◌, ◌≤◌, ◌++◌, length, take};
 ghost use Rattle.ts_words.specs.Endings.{ended, host_line_of_status};
 ghost use Rattle.ts_words.specs.FaultCauses.{cause_suffix, cause_text};
@@ -15,8 +15,8 @@ pub struct LastCauses {
     pub log: Option<Cause>,
 }
 
-/// Writes the line for a status of the mode `Host` into `line_buffer`: the line for the status, in which the cause
-/// follows a fault of the hub or of the log.
+/// Writes the line for a status of the mode `Host` or `Fold` into `line_buffer`: the line for the status, in which the
+/// cause follows a fault of the hub or of the log.
 pub fn host_line(
     status: Status,
     byte_offset: u64,

@@ -32,14 +32,16 @@ pub enum Mode {
     Keep,
     /// Serves any number of connections at once. The second argument is the address.
     Host(Storage),
+    /// Puts a checkpoint in the place of a journal. The second argument is the name of the journal's file.
+    Fold,
     /// Answers a capture of interleaved connections on standard input.
     Mux,
 }
 
 impl Mode {
-    /// Parses the arguments after the program's name: `pipe`, `mux`, `keep NAME`, `serve ADDRESS CONNECTIONS`, `gen
-    /// SEED N`, or `host ADDRESS`, with a journal `host ADDRESS NAME` or `host ADDRESS NAME sync`. Returns `None` for
-    /// anything else.
+    /// Parses the arguments after the program's name: `pipe`, `mux`, `keep NAME`, `fold NAME`, `serve ADDRESS
+    /// CONNECTIONS`, `gen SEED N`, or `host ADDRESS`, with a journal `host ADDRESS NAME` or `host ADDRESS NAME sync`.
+    /// Returns `None` for anything else.
     pub fn read(words: &[String]) -> Option<Mode>
         ensures mode { result ≡ mode_of (map string_bytes words.now) }
         ensures within { IfSome result IsWithin }
@@ -76,6 +78,8 @@ fn two_words(word: &str, name: &str) -> Option<Mode>
     }
     if word == "keep" {
         Some(Mode::Keep)
+    } else if word == "fold" {
+        Some(Mode::Fold)
     } else if word == "host" {
         Some(Mode::Host(Storage::Memory))
     } else {

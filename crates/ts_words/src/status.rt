@@ -73,7 +73,7 @@ pub fn line(
         Status::Usage => write_text_line(
             line_buffer,
             b"usage: tsd pipe | tsd serve <address> <connections> | tsd gen <seed> <n> | tsd keep <file> \
-              | tsd host <address> [<file> [sync]] | tsd mux",
+              | tsd host <address> [<file> [sync]] | tsd fold <file> | tsd mux",
         ),
         Status::Truncated => write_truncated_line(mode, line_buffer, byte_offset),
         Status::Protocol => write_offset_line(
@@ -112,12 +112,14 @@ fn write_truncated_line(mode: Option<Mode>, line_buffer: &mut [u8; 160], byte_of
             b"tsd: capture ends inside a frame that begins at byte ",
             byte_offset,
         ),
-        Some(Mode::Pipe | Mode::Serve(_) | Mode::Gen(_, _) | Mode::Keep | Mode::Host(_)) | None =>
-            write_offset_line(
-                line_buffer,
-                b"tsd: input ends inside a request that begins at byte ",
-                byte_offset,
-            ),
+        Some(
+            Mode::Pipe | Mode::Serve(_) | Mode::Gen(_, _) | Mode::Keep | Mode::Host(_) | Mode::Fold,
+        )
+        | None => write_offset_line(
+            line_buffer,
+            b"tsd: input ends inside a request that begins at byte ",
+            byte_offset,
+        ),
     }
 }
 

@@ -9,6 +9,7 @@ ghost use Rattle.ts_words.specs.declared.mode.Storage.{Storage};
 ghost use Rattle.ts_words.specs.declared.mode.Storage.TheVariants.{Memory};
 ghost use Rattle.ts_engine.specs.Asked.{asked, Connections};
 ghost use Rattle.ts_engine.specs.Captured.{IsMux, Captured};
+ghost use Rattle.ts_engine.specs.Folded.{IsFold, Folded};
 ghost use Rattle.ts_engine.specs.Generated.{Workload};
 ghost use Rattle.ts_engine.specs.Headline.{RunView};
 ghost use Rattle.ts_engine.specs.HostEnds.{has_journal, host_address};
@@ -168,6 +169,11 @@ fn answer<S: Source, K: Sink, E: Sink, C: Clock, N: Listener, J: Log, H: Hub>(
         }))
         (record { hub = H.last_cause hub.new; log = J.last_cause log.new })
         (E.has err.old) (E.has err.new) result }
+
+    // fold: the journal is a checkpoint afterwards, which loads to a database that stores the same; or it is as it was.
+    ensures folded { IsFold words.now → (journal : List ℕ) → J.content log.old ≡ Some journal
+        → Folded usual (2 ^ 60) journal (J.content log.new)
+        (record { hub = None; log = J.last_cause log.new }) (E.has err.old) (E.has err.new) result }
 
     // mux: the output has a frame with the reply to each request of the interleaved connections.
     ensures captured { IsMux words.now → (bytes : List ℕ) → S.left input.old ≡ Some bytes → Captured

@@ -11,13 +11,13 @@ pub returns-in-Ok-clause-did : goal.returns-in-Ok-clause-did
 returns-in-Ok-clause-did g c = λ journal bytes has told.
     let opened = c.in-Ok.ensures.opened (record { limits = c.args.options.now.limits; state = empty }) c.new-db.ensures.stands in
     let answered = c.answer_input.ensures.answered opened.to opened.stands in
-    kept-did c.args.options.now.limits _ _ _ _ _ _ _ journal bytes c.args.options.now.budget c.answer_input.result opened.to answered.to (opened.done journal has) _ _ _ _ _ _ (answered.done bytes told) c.requires.bounded _
+    kept-did c.args.options.now.limits _ _ _ _ _ _ _ journal bytes c.args.options.now.budget c.answer_input.result opened.to answered.to c.in-Ok.field-0 (opened.done journal has) _ _ _ _ _ _ (answered.done bytes told) c.requires.bounded _
 
 pub returns-in-Ok-clause-complete : goal.returns-in-Ok-clause-complete
 returns-in-Ok-clause-complete g c = λ journal bytes has told no_read no_write no_fault.
     let opened = c.in-Ok.ensures.opened (record { limits = c.args.options.now.limits; state = empty }) c.new-db.ensures.stands in
     let answered = c.answer_input.ensures.answered opened.to opened.stands in
-    kept-complete c.args.options.now.limits _ _ _ _ _ _ _ journal bytes c.args.options.now.budget c.answer_input.result opened.to answered.to (opened.done journal has) _ _ _ _ _ _ (answered.done bytes told) no_read no_write
+    kept-complete c.args.options.now.limits _ _ _ _ _ _ _ journal bytes c.args.options.now.budget c.answer_input.result opened.to answered.to c.in-Ok.field-0 (opened.done journal has) _ _ _ _ _ _ (answered.done bytes told) no_read no_write
     (λ rose. no_fault (subst (λ (n : ℕ). Rose n (g.J.Log.faults c.answer_input.new.log)) (c.in-Ok.ensures.no_fault (λ is. (cc))) rose))
 
 pub returns-in-Ok-clause-causes : goal.returns-in-Ok-clause-causes

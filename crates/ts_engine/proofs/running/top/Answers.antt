@@ -14,7 +14,7 @@ use Rattle.ts_engine.specs.Top.{Reports}
 use Rattle.ts_engine.proofs.Links.{same_links, all_served_as}
 use Rattle.ts_engine.proofs.Spending.{by_budget}
 use Rattle.ts_engine.proofs.Taking.{piped_taken, piped_writes}
-use Rattle.ts_engine.proofs.Tops.{keep-words, same-storage, by_grammar, answered_as, as_meant, not_meant, answered_or_memory}
+use Rattle.ts_engine.proofs.Tops.{keep-words, fold-words, same-storage, by_grammar, answered_as, as_meant, not_meant, answered_or_memory}
 use Rattle.ts_engine.proofs.running.top.Goals as goal
 
 pub returns-in-Some-Pipe-clause-status_line : goal.returns-in-Some-Pipe-clause-status_line
@@ -74,6 +74,10 @@ returns-in-Some-Serve-clause-serve_complete g c = λ links is no_accept no_write
 pub bounds-words-1-in-Some-Keep : goal.bounds-words-1-in-Some-Keep
 bounds-words-1-in-Some-Keep g c =
     omega (arith, keep-words (map string_bytes c.args.words.now) (rw c.in-Some-Keep.field-0-is at c.in-Some-Keep.ensures.mode), length-map c.args.words.now string_bytes)
+
+pub bounds-words-1-in-Some-Fold : goal.bounds-words-1-in-Some-Fold
+bounds-words-1-in-Some-Fold g c =
+    omega (arith, fold-words (map string_bytes c.args.words.now) (rw c.in-Some-Fold.field-0-is at c.in-Some-Fold.ensures.mode), length-map c.args.words.now string_bytes)
 
 -- the address is that of the arguments, and the storage that of the mode
 pub returns-in-Some-Host-clause-hosted : goal.returns-in-Some-Host-clause-hosted
