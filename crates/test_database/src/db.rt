@@ -12,7 +12,7 @@ use ts_sample::Steps;
 use ts_spec::Limits;
 
 mod again;
-pub(crate) mod call;
+mod call;
 mod faults;
 mod queries;
 mod refused;

@@ -4,10 +4,6 @@
 #[cfg(test)]
 mod db;
 #[cfg(test)]
-mod restored;
-#[cfg(test)]
-mod restored_series;
-#[cfg(test)]
 mod rules;
 #[cfg(test)]
 mod series;

@@ -4,7 +4,7 @@ use std::marker::Brand;
 use std::sync::ledger::Blank;
 use std::test::*;
 
-pub(crate) mod case;
+mod case;
 
 #[test]
 fn writes(rt: HostRuntime) {
