@@ -26,7 +26,7 @@ use Rattle.ts_spec.specs.Wire.{Request}
 use Rattle.ts_bucket.specs.Grid.{IsGrid}
 use Rattle.ts_journal.specs.Record.{accepted, record_words, record_of}
 use Rattle.ts_journal.specs.RecordReplay.{IsRecorded}
-use Rattle.ts_checkpoint.proofs.Decimals.{command-number-read}
+use Rattle.ts_journal.proofs.Numbers.{number-decimal}
 
 -- ---- TS.CREATERULE
 
@@ -43,11 +43,11 @@ aggregator-read agg.Last = refl
 
 duration-read : (n : ℕ) → 1 ≤ n → n ≤ 10 ^ 14 → duration_word (decimal n) ≡ Ok n
 unfolding duration_word
-duration-read n from to = rw (command-number-read n (omega arith), le-leb 1 n from, le-leb n (10 ^ 14) to) refl
+duration-read n from to = rw (number-decimal n (omega arith), le-leb 1 n from, le-leb n (10 ^ 14) to) refl
 
 align-read : (n : ℕ) → n ≤ MAX_TIME → time_word (decimal n) ≡ Ok n
 unfolding time_word
-align-read n h = rw (command-number-read n h) refl
+align-read n h = rw (number-decimal n h) refl
 
 pub create_rule-read : (source dest : Key) (a : Aggregator) (grid : Grid) → IsGrid grid
     → command (record_words 0 (CreateRule source dest a grid)) ≡ Ok (CreateRule source dest a grid)

@@ -1,69 +1,17 @@
 -- Numbers in decimal parse as these numbers.
-use Rattle.std.proofs.Common.{◌≡◌, ℕ, zero, suc, ◌+◌, ◌*◌, ◌/◌, ◌%◌, ◌^◌, ◌<◌, ◌≤◌, ◌==◌, ◌&&◌, nat_le, Bool, true, false, if◌then◌else◌, List, [], ◌∷◌, length, Some, refl, sym, ◌∙◌, ap, arith}
-use Rattle.std.proofs.lemmas.Bool.{le-leb, leb-true, lt-ltb, eqb-true, ne_eqb, and_parts}
-use Rattle.std.proofs.lemmas.Fmt.{length-decimal-le, length-decimal-le_wide, decimal_nonempty}
-use Rattle.std.specs.Prelude.{fold, ℤ, pos, negsuc, neg_ℤ, unsigned_abs, option_map}
+use Rattle.std.proofs.Common.{◌≡◌, ℕ, zero, suc, ◌+◌, ◌*◌, ◌^◌, ◌<◌, ◌≤◌, ◌&&◌, nat_le, Bool, true, if◌then◌else◌, List, [], ◌∷◌, length, Some, refl, sym, ◌∙◌, ap, arith}
+use Rattle.std.proofs.lemmas.Bool.{le-leb, leb-true, ne_eqb, and_parts}
+use Rattle.std.proofs.lemmas.Fmt.{length-decimal-le_wide, decimal_nonempty}
+use Rattle.std.specs.Prelude.{ℤ, pos, negsuc, neg_ℤ, unsigned_abs, option_map}
 use Rattle.std.specs.List.{list_all}
-use Rattle.std.specs.Fmt.{decimal, signed_decimal, digits, digits_onto, digit_glyph}
-use Rattle.std.specs.Str.{bytes_eq}
-use Rattle.ts_spec.specs.Number.{digits_number, number}
+use Rattle.std.specs.Fmt.{decimal, signed_decimal}
+use Rattle.ts_spec.specs.Number.{digits_number}
 use Rattle.ts_spec.specs.Sample.{MAX_TIME}
 use Rattle.ts_spec.specs.Value.{bound, shown_value}
-use Rattle.ts_spec.specs.Wire.{is_digit, digit_of}
+use Rattle.ts_spec.specs.Wire.{is_digit}
 use Rattle.ts_decimal.proofs.ReadBack.{value_of_shown}
+use Rattle.ts_journal.proofs.Numbers.{number-of, all-digits, no-digit}
 use Rattle.ts_checkpoint.specs.Numbers.{whole, number_in, time_or_none, time_word, integer, valid_value, value_in}
-
--- a number continued by a digit
-abbrev next : ℕ → ℕ → ℕ
-next n byte = 10 * n + digit_of byte
-
-glyph-of : (d : ℕ) → d < 10 → digit_glyph false d ≡ 48 + d
-glyph-of d h = ap (λ b. if b then 48 + d else 87 + d) (lt-ltb d 10 h)
-
-last-digit : (n : ℕ) → n % 10 < 10
-last-digit n = omega arith
-
-is-digit : (d : ℕ) → d < 10 → is_digit (48 + d) ≡ true
-is-digit d h = ap (λ b. b && nat_le (48 + d) 57) (le-leb 48 (48 + d) (omega arith)) ∙ ap (λ b. true && b) (le-leb (48 + d) 57 (omega arith))
-
--- the digits that are put before others spell the number, with which those others go on
-onto-number : (k n : ℕ) (rest : List ℕ) → n < 10 ^ k → fold next 0 (digits_onto k 10 false n rest) ≡ fold next n rest
-onto-number zero n rest h = ap (λ m. fold next m rest) (omega arith)
-onto-number (suc k) n rest h =
-    go (n / 10 == 0) refl (digit_glyph false (n % 10)) (glyph-of (n % 10) (last-digit n)) (λ small. onto-number k (n / 10) (digit_glyph false (n % 10) ∷ rest) small)
-  where
-    go : (b : Bool) → (n / 10 == 0) ≡ b → (g : ℕ) → g ≡ 48 + n % 10
-        → (n / 10 < 10 ^ k → fold next 0 (digits_onto k 10 false (n / 10) (g ∷ rest)) ≡ fold next (n / 10) (g ∷ rest))
-        → fold next 0 (if b then g ∷ rest else digits_onto k 10 false (n / 10) (g ∷ rest)) ≡ fold next n rest
-    go true e g is before =
-        let none : n / 10 ≡ 0 = eqb-true (n / 10) 0 e in
-        let all : 10 * 0 + digit_of g ≡ n = omega arith in
-        ap (λ m. fold next m rest) all
-    go false e g is before =
-        let all : 10 * (n / 10) + digit_of g ≡ n = omega arith in
-        before (omega arith) ∙ ap (λ m. fold next m rest) all
-
-onto-digits : (k n : ℕ) (rest : List ℕ) → list_all is_digit rest ≡ true → list_all is_digit (digits_onto k 10 false n rest) ≡ true
-onto-digits zero n rest h = h
-onto-digits (suc k) n rest h = go (n / 10 == 0) more (onto-digits k (n / 10) (digit_glyph false (n % 10) ∷ rest) more)
-  where
-    more : list_all is_digit (digit_glyph false (n % 10) ∷ rest) ≡ true
-    more =
-        ap (λ g. list_all is_digit (g ∷ rest)) (glyph-of (n % 10) (last-digit n)) ∙ ap (λ b. b && list_all is_digit rest) (is-digit (n % 10) (last-digit n)) ∙ h
-
-    go : (b : Bool) → list_all is_digit (digit_glyph false (n % 10) ∷ rest) ≡ true
-        → list_all is_digit (digits_onto k 10 false (n / 10) (digit_glyph false (n % 10) ∷ rest)) ≡ true
-        → list_all is_digit (if b then digit_glyph false (n % 10) ∷ rest else digits_onto k 10 false (n / 10) (digit_glyph false (n % 10) ∷ rest)) ≡ true
-    go true one others = one
-    go false one others = others
-
-number-of : (n : ℕ) → n < 10 ^ 64 → digits_number (decimal n) ≡ n
-unfolding digits
-number-of n h = onto-number 64 n [] h
-
-all-digits : (n : ℕ) → list_all is_digit (decimal n) ≡ true
-unfolding digits
-all-digits n = onto-digits 64 n [] refl
 
 some-digit : (n : ℕ) → n < 10 ^ 64 → 1 ≤ length (decimal n)
 some-digit n h = go (decimal n) refl
@@ -76,8 +24,6 @@ some-digit n h = go (decimal n) refl
         omega (arith, some, empty)
     go (b ∷ word) e = omega arith
 
--- ---- the numbers of records
-
 pub whole-decimal : (n : ℕ) → n < 10 ^ 38 → whole (decimal n) ≡ Some n
 unfolding whole
 whole-decimal n h =
@@ -89,14 +35,6 @@ whole-decimal n h =
 pub number-decimal : (least most n : ℕ) → n < 10 ^ 38 → least ≤ n → n ≤ most → number_in least most (decimal n) ≡ Some n
 unfolding number_in
 number-decimal least most n small from to = rw (whole-decimal n small, le-leb least n from, le-leb n most to) refl
-
--- a word of digits is none of one byte that is no digit
-no-digit : (word : List ℕ) (byte : ℕ) → byte < 48 → list_all is_digit word ≡ true → bytes_eq word (byte ∷ []) ≡ false
-no-digit [] byte small h = refl
-no-digit (b ∷ word) byte small h =
-    let digit = and_parts (is_digit b) (list_all is_digit word) h in
-    let from : 48 ≤ b = leb-true 48 b (and_parts (nat_le 48 b) (nat_le b 57) digit.0).0 in
-    ap (λ c. c && bytes_eq word []) (ne_eqb b byte (λ e. omega arith))
 
 pub some-time-read : (t : ℕ) → t ≤ MAX_TIME → time_or_none (time_word (Some t)) ≡ Some (Some t)
 unfolding time_or_none
@@ -119,13 +57,3 @@ integer-read (negsuc n) h = ap (λ o. option_map (λ m. neg_ℤ (pos m)) o) (who
 pub value-read : (v : ℤ) → unsigned_abs v ≤ bound → value_in (shown_value v) ≡ Some v
 unfolding value_in
 value-read v h = ap valid_value (value_of_shown v h)
-
--- ---- the numbers of commands
-
-pub command-number-read : (n : ℕ) → n ≤ MAX_TIME → number (decimal n) ≡ Some n
-command-number-read n h =
-    let value = number-of n (omega arith) in
-    let some : nat_le 1 (length (decimal n)) ≡ true = le-leb 1 (length (decimal n)) (omega (arith, decimal_nonempty n (omega arith))) in
-    let few : nat_le (length (decimal n)) 19 ≡ true = le-leb (length (decimal n)) 19 (length-decimal-le 19 n (omega arith) (omega arith) (omega arith)) in
-    let small : nat_le n MAX_TIME ≡ true = le-leb n MAX_TIME h in
-    rw (some, few, all-digits n, value, small) refl

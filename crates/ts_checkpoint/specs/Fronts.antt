@@ -8,7 +8,7 @@ use Rattle.ts_journal.specs.Loading.{Loads, BreaksAt, unless_foreign}
 use Rattle.ts_checkpoint.specs.PartOf.{part_of}
 use Rattle.ts_checkpoint.specs.Loading.{parts_said, load}
 
--- the offset behind so many requests of a stream, or behind all of them
+-- the offset behind the first `left` requests of a stream, or behind all of them if there are fewer
 abbrev pub offset_behind : (left place : ℕ) → Stream → ℕ
 offset_behind zero place stream = place
 offset_behind (suc left) place (Then request after rest) = offset_behind left after rest

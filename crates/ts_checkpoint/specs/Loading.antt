@@ -97,7 +97,7 @@ abbrev pub load_behind : Limits → Option OpenSeries → State → (place size 
 load_behind limits None m place size stream = load_on limits m place size stream
 load_behind limits (Some o) m place size stream = BreaksAt place
 
--- restores a checkpoint of which so many parts are left, and loads what follows; it breaks if a part is missing
+-- restores a checkpoint with `left` parts still to come, and loads what follows; it breaks if a part is missing
 abbrev pub restore_on : Limits → Restoring → (left place size : ℕ) → Stream → Load
 restore_on limits r zero place size stream = load_behind limits r.current r.state place size stream
 restore_on limits r (suc left) place size (Then request after rest) =
@@ -111,7 +111,7 @@ abbrev pub parts_said : Option Part → Option ℕ
 parts_said (Some (Head n)) = Some n
 parts_said other = None
 
--- loads a stream by its first request: a checkpoint of so many parts and the changes behind it, or changes alone
+-- loads a stream by its first request: a checkpoint of `left` parts and the changes behind it, or changes alone
 abbrev pub load_first : Limits → State → Option ℕ → (size : ℕ) → Request → (after : ℕ) → Stream → Load
 load_first limits m None size request after rest = load_on limits m 0 size (Then request after rest)
 load_first limits m (Some left) size request after rest = restore_on limits (restoring m) left after size rest

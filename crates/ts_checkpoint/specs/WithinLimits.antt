@@ -2,7 +2,7 @@
 use Rattle.std.specs.Prelude.{ℕ, ◌-◌, Bool, true, false, ◌&&◌, nat_le, if◌then◌else◌, [], ◌∷◌, length}
 use Rattle.ts_spec.specs.Wire.{Request}
 
--- whether each word has at most so many bytes, and all of them at most `left`
+-- whether each word has at most `word_bytes` bytes, and all of them together at most `left`
 abbrev pub fit_within : (word_bytes left : ℕ) → Request → Bool
 fit_within word_bytes left [] = true
 fit_within word_bytes left (word ∷ words) =

@@ -5,7 +5,6 @@ ghost use Rattle.ts_spec.specs.Command as command;
 ghost use Rattle.ts_spec.specs.Replies.{aggregator_name};
 ghost use Rattle.ts_journal.specs.Record.{retention_words, encoding_words, chunk_size_words, policy_words};
 ghost use Rattle.ts_journal.specs.Record.{ignore_words, label_pairs, labels_words, spec_words, record_words};
-ghost use Rattle.ts_journal.specs.Record as record_;
 ghost use Rattle.ts_checkpoint.specs.Records.{Appends};
 
 use crate::draft::Draft;
@@ -13,6 +12,7 @@ use crate::part::RuleRecord;
 use std::alloc::AllocError;
 use ts_agg::name;
 use ts_bucket::Grid;
+use ts_journal::{encoding_name, policy_name};
 use ts_labels::Labels;
 use ts_resp::Word;
 use ts_spec::{Aggregator, Encoding, Ignore, Options, Policy};
@@ -128,26 +128,4 @@ fn put_label_pairs(draft: &mut Draft, labels: &Labels) -> Result<(), AllocError>
         draft.put_word(labels.value_at(i))?;
     }
     Ok(())
-}
-
-fn encoding_name(encoding: Encoding) -> &'static [u8]
-    ensures { result.now ≡ record_.encoding_name encoding }
-{
-    match encoding {
-        Encoding::Compressed => b"COMPRESSED",
-        Encoding::Uncompressed => b"UNCOMPRESSED",
-    }
-}
-
-fn policy_name(policy: Policy) -> &'static [u8]
-    ensures { result.now ≡ record_.policy_name policy }
-{
-    match policy {
-        Policy::Block => b"BLOCK",
-        Policy::First => b"FIRST",
-        Policy::Last => b"LAST",
-        Policy::Min => b"MIN",
-        Policy::Max => b"MAX",
-        Policy::Sum => b"SUM",
-    }
 }

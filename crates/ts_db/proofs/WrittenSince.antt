@@ -10,35 +10,17 @@ use Rattle.ts_spec.specs.Sample.{Point, MAX_TIME, IsAscending, at, is_within, be
 use Rattle.ts_spec.specs.StoredSeries.{StoredRule}
 use Rattle.ts_spec.specs.Valid.{Every, IsUpTo}
 use Rattle.ts_spec.proofs.Aggregates.{summary-count}
-use Rattle.ts_spec.proofs.Samples.{at-after}
 use Rattle.ts_restore.specs.Restored.{last_since, top_at}
 use Rattle.ts_restore.specs.Restorable.{IsBucketAt, IsUnwritten}
 use Rattle.ts_restore.specs.Summaries.{IsSummary, IsShortSummary}
 use Rattle.ts_restore.proofs.LaidRules.{last-low}
 use Rattle.ts_restore.proofs.RestoringSeries.{all-times}
+use Rattle.ts_restore.proofs.StoredRules.{every-first, every-rest}
 use Rattle.ts_sample.specs.Visit.{visited}
 use Rattle.ts_series.specs.History.{History, list_of}
 use Rattle.ts_db.specs.declared.restorable.WrittenSince.{WrittenSince}
 use Rattle.ts_db.specs.Restorable.{top_since, since_with}
 use Rattle.ts_db.specs.Store.{stored_series}
-
--- ---- each sample of an ascending list
-
-every-first : (P : Point → Type 0) (p : Point) (ps : List Point) → Every P (p ∷ ps) → P p
-every-first P p ps h = h p.time p (ap (λ (b : Bool). cond b (Some p) (at p.time ps)) (same p.time))
-  where
-    same : (t : ℕ) → (t == t) ≡ true
-    same t = grind arith
-
-every-rest : (P : Point → Type 0) (p : Point) (ps : List Point) → IsAscending (p ∷ ps) → Every P (p ∷ ps) → Every P ps
-every-rest P p ps up h t q e = h t q (go (p.time == t) refl)
-  where
-    go : (b : Bool) → (p.time == t) ≡ b → cond b (Some p) (at t ps) ≡ Some q
-    go false x = e
-    go true x =
-        let same : p.time ≡ t = grind arith in
-        let none : at t ps ≡ None = at-after t p.time ps up.0 (omega arith) in
-        let one : None ≡ Some q = sym none ∙ e in absurd (cc one)
 
 -- ---- the visitor
 

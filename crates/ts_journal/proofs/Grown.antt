@@ -1,13 +1,11 @@
--- A journal, followed by a record.
-use Rattle.std.proofs.Common.{◌≡◌, ◌≢◌, ℕ, zero, suc, ◌^◌, ◌<◌, true, false, ◌&&◌, ◌||◌, not, if◌then◌else◌, List, [], ◌∷◌, ◌++◌, length, take, refl, sym, ap, ◌∙◌, subst, append-nil, arith}
+-- The record of a command is replayed, and is one request.
+use Rattle.std.proofs.Common.{◌≡◌, ◌≢◌, ℕ, ◌^◌, ◌<◌, true, false, ◌&&◌, ◌||◌, not, if◌then◌else◌, List, [], ◌∷◌, refl, sym, ap, ◌∙◌, append-nil}
 use Rattle.std.specs.Prelude.{Some, None}
-use Rattle.std.proofs.Math.Seq.{drop-append_seam}
 use Rattle.std.proofs.lemmas.List.Elements.{All-nil, All-cons}
 use Rattle.ts_spec.specs.declared.limits.Limits.{Limits}
 use Rattle.ts_spec.specs.declared.wire.WireLimits.{WireLimits}
 use Rattle.ts_spec.specs.Command.{Command, Create, Alter, Add, Madd, Incr, DelRange, CreateRule, DeleteRule, Range, MRange, Get, MGet, QueryIndex, InfoOf, Ping, Echo, Quit, Drop, Exists}
 use Rattle.ts_spec.specs.Encoded.{encoded_request, Fits}
-use Rattle.ts_spec.specs.StreamPrefixes.{IsWithin}
 use Rattle.ts_spec.specs.Grammar.{command, needs_clock}
 use Rattle.ts_spec.specs.Replies.{reply_to}
 use Rattle.ts_spec.specs.ResolvedCommands.{resolved}
@@ -17,15 +15,10 @@ use Rattle.ts_spec.specs.Text.{Reply}
 use Rattle.ts_spec.specs.Wire.{Request, Stream, Then, Ended, Inside, Broken, stream_at, requests_of, ending_of}
 use Rattle.ts_spec.proofs.ReadBack.{requests-encoded}
 use Rattle.ts_spec.proofs.ResolvedTimes.{no-clock}
-use Rattle.ts_journal.specs.Limits.{IsBounded, journal_limits}
-use Rattle.ts_journal.specs.Loading.{Loads, accepted_state, apply_recorded, apply_recorded_request, begins_as_record, continue_or_break, load_on, load, LoadsTo}
+use Rattle.ts_journal.specs.Loading.{accepted_state, apply_recorded, apply_recorded_request, begins_as_record}
 use Rattle.ts_journal.specs.Record.{is_change, items_of, accepted, bytes_of, record_words, record_of}
 use Rattle.ts_journal.specs.RecordReplay.{IsRecorded, IsAccepted, has_error}
-use Rattle.ts_journal.proofs.Almost.{torn-inside}
-use Rattle.ts_journal.proofs.Fitting.{record-fits}
-use Rattle.ts_journal.proofs.Loads.{requests_load, load-more}
 use Rattle.ts_journal.proofs.Replays.{not-refused, some-words, words-read, replays}
-use Rattle.ts_journal.proofs.Rests.{by-rest, loads-alone}
 
 -- ---- the record of a command is replayed
 
@@ -108,59 +101,3 @@ request-alone limits request place few short fits =
     one-request (stream_at limits place (encoded_request request)) request
     (ap (λ (bytes : List ℕ). requests_of (stream_at limits place bytes)) (sym bytes) ∙ read.0)
     (ap (λ (bytes : List ℕ). ending_of (stream_at limits place bytes)) (sym bytes) ∙ read.1)
-
--- ---- a journal and its next record
-
-pub record Grows (limits : Limits) (bytes : List ℕ) (old new : State) (more : List ℕ) : Type 0 where
-  pub whole : LoadsTo limits (bytes ++ more) new
-  pub torn : (n : ℕ) → n < length more → load limits (bytes ++ take n more) ≡ Loads old (length bytes)
-
-grown : (limits : Limits) (bytes : List ℕ) (old new : State) (words : Request) → IsBounded limits.wire → LoadsTo limits bytes old → Fits (journal_limits limits.wire) words
-    → apply_recorded_request limits old (command words) ≡ Some new → Grows limits bytes old new (encoded_request words)
-grown limits bytes old new words b e fits does = record {
-  whole =
-      let request = request-alone within words (length bytes) few short fits in
-      let more = load-more limits bytes (encoded_request words) old e in
-      let all : List ℕ = bytes ++ encoded_request words in
-      let total = length all in
-      loads-alone all (requests_load limits all) new total (omega arith)
-      (more.1
-      ∙ ap (load_on limits old more.0 total) request.1
-      ∙ ap (λ o. continue_or_break o more.0 (λ n. Loads n total)) does);
-  torn = part;
-}
-  where
-    within : WireLimits
-    within = journal_limits limits.wire
-
-    few : within.words < 2 ^ 64
-    few = omega (arith, b.words, b.line_bytes)
-
-    short : within.word_bytes < 2 ^ 64
-    short = omega (arith, b.word_bytes, b.line_bytes)
-
-    part : (n : ℕ) → n < length (encoded_request words) → load limits (bytes ++ take n (encoded_request words)) ≡ Loads old (length bytes)
-    part zero less = ap (load limits) (append-nil bytes) ∙ e
-    part (suc n) less =
-        let front = take (suc n) (encoded_request words) in
-        let more = load-more limits bytes front old e in
-        by-rest (bytes ++ front) (requests_load limits (bytes ++ front)) old (length bytes) true
-        (more.1 ∙ ap (load_on limits old more.0 (length (bytes ++ front))) (torn-inside within (length bytes) words (suc n) few short fits (omega arith) less))
-        (ap begins_as_record (drop-append_seam bytes front))
-
-pub record-grown : (limits : Limits) (bytes : List ℕ) (reading : ℕ) (c : Command) (old new : State) (reply : Reply) → IsBounded limits.wire → LoadsTo limits bytes old
-    → (r : IsRecorded limits reading c old reply new) → IsWithin limits.wire r.words → Grows limits bytes old new (record_of c reading reply)
-record-grown limits bytes reading c old new reply b e r within =
-    let words : Request = record_words reading (accepted c reply) in
-    let fits : Fits (journal_limits limits.wire) words = record-fits limits.wire words (record {
-      words = r.words;
-      within = within;
-      change = c;
-      says = r.says;
-      reading = reading;
-      reply = reply;
-      its = refl;
-      some = some-words c reading reply r.some;
-    }) in
-    subst (Grows limits bytes old new) (sym (record-encoded c reading reply r.some))
-    (grown limits bytes old new words b e fits (record-apply_recorded limits reading c old new reply r))

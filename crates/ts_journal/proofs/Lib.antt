@@ -6,7 +6,7 @@ pub mod Taking
 pub mod TripleLemmas
 mod RecordsAtWork
 mod LoadingAtWork
-mod Numbers
+pub mod Numbers
 mod LabelWords
 mod Readable
 mod ReadableOptions
@@ -30,6 +30,5 @@ pub mod Almost
 pub mod Rests
 pub mod Loads
 pub mod Grown
-mod OnlyRecords
 pub mod Unrecorded
 pub mod FrontsLoad

@@ -1,17 +1,14 @@
 -- What the requests of a stream load to, one after another.
-use Rattle.std.proofs.Common.{◌≡◌, ℕ, ◌+◌, ◌≤◌, List, ◌++◌, length, inl, inr, refl, ap, ◌∙◌, arith}
+use Rattle.std.proofs.Common.{◌≡◌, ℕ, List, length, inl, inr, refl, ap, ◌∙◌}
 use Rattle.std.specs.Prelude.{◌⊎◌, Option, None, Some}
 use Rattle.ts_spec.specs.declared.limits.Limits.{Limits}
-use Rattle.ts_spec.specs.declared.wire.WireLimits.{WireLimits}
 use Rattle.ts_spec.specs.StreamPrefixes.{continued_by}
 use Rattle.ts_spec.specs.Grammar.{command}
 use Rattle.ts_spec.specs.State.{State, empty}
-use Rattle.ts_spec.specs.Wire.{Request, Stream, Then, Ended, Inside, Broken, Start, stream_at, ending_of}
-use Rattle.ts_spec.proofs.Concatenation.{concatenated}
+use Rattle.ts_spec.specs.Wire.{Request, Stream, Then, Ended, Inside, Broken, stream_at, ending_of}
 use Rattle.ts_journal.specs.Limits.{journal_limits}
-use Rattle.ts_journal.specs.Loading.{Load, Loads, apply_recorded_request, continue_or_break, load_on, load, LoadsTo}
+use Rattle.ts_journal.specs.Loading.{Load, Loads, apply_recorded_request, continue_or_break, load_on, load}
 use Rattle.ts_journal.proofs.Rests.{rest-of}
-use Rattle.ts_journal.proofs.Unfinished.{unfinished}
 
 -- ---- a request, and those after it
 
@@ -53,30 +50,8 @@ requests_load limits bytes = load_on limits empty 0 (length bytes) (stream_at (j
 pub requests-of : (limits : Limits) (bytes : List ℕ) (m : State) (place : ℕ) → load limits bytes ≡ Loads m place → requests_load limits bytes ≡ Loads m place
 requests-of limits bytes m place e = (rest-of bytes (requests_load limits bytes) m place e).0
 
--- no more than all of its bytes are whole requests
-pub requests-within : (limits : Limits) (bytes : List ℕ) (m : State) (place : ℕ) → requests_load limits bytes ≡ Loads m place → place ≤ length bytes
-requests-within limits bytes m place e =
-    let stream : Stream = stream_at (journal_limits limits.wire) 0 bytes in
-    elim (loads-end limits empty 0 (length bytes) stream m place e) [
-      | inl ended ↦ omega (arith, ended.1)
-      | inr inside ↦ (let u = unfinished (journal_limits limits.wire) 0 bytes place inside in omega (arith, u.its, u.fewer))
-    ]
+-- ---- requests, and more after them
 
-pub load-within : (limits : Limits) (bytes : List ℕ) (m : State) (place : ℕ) → load limits bytes ≡ Loads m place → place ≤ length bytes
-load-within limits bytes m place e = requests-within limits bytes m place (requests-of limits bytes m place e)
-
--- where they all are, it ends after the last one
-pub loads-ended : (limits : Limits) (bytes : List ℕ) (m : State) → LoadsTo limits bytes m → ending_of (stream_at (journal_limits limits.wire) 0 bytes) ≡ Ended
-loads-ended limits bytes m e =
-    let stream : Stream = stream_at (journal_limits limits.wire) 0 bytes in
-    elim (loads-end limits empty 0 (length bytes) stream m (length bytes) (requests-of limits bytes m (length bytes) e)) [
-      | inl ended ↦ ended.0
-      | inr inside ↦ (let u = unfinished (journal_limits limits.wire) 0 bytes (length bytes) inside in absurd (omega (arith, u.its, u.fewer)))
-    ]
-
--- ---- more bytes
-
--- requests, and more after them
 pub loads-continued_by : (limits : Limits) (m : State) (before size total : ℕ) (stream rest : Stream) (n : State) (place : ℕ) → ending_of stream ≡ Ended
     → load_on limits m before size stream ≡ Loads n place
     → (last : ℕ) × (load_on limits m before total (continued_by stream rest) ≡ load_on limits n last total rest)
@@ -89,18 +64,3 @@ loads-continued_by limits m before size total Ended rest n place ended e =
     (before, ap (λ m. load_on limits m before total rest) same)
 loads-continued_by limits m before size total (Inside begin) rest n place ended e = absurd cc
 loads-continued_by limits m before size total (Broken kind at) rest n place ended e = absurd cc
-
--- a journal, and more after it
-pub load-more : (limits : Limits) (bytes more : List ℕ) (m : State) → LoadsTo limits bytes m
-    → (last : ℕ) × (requests_load limits (bytes ++ more) ≡ load_on limits m last (length (bytes ++ more)) (stream_at (journal_limits limits.wire) (length bytes) more))
-load-more limits bytes more m e =
-    let within : WireLimits = journal_limits limits.wire in
-    let total = length (bytes ++ more) in
-    let ended = loads-ended limits bytes m e in
-    let there : 0 + length bytes ≡ length bytes = omega arith in
-    let all = loads-continued_by limits empty 0 (length bytes) total (stream_at within 0 bytes) (stream_at within (length bytes) more) m (length bytes) ended (requests-of limits bytes m (length bytes) e) in (
-      all.0,
-      ap (load_on limits empty 0 total)
-          (concatenated within 0 0 Start bytes more refl ended ∙ ap (λ place. continued_by (stream_at within 0 bytes) (stream_at within place more)) there)
-          ∙ all.1,
-    )

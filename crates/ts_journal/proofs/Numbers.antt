@@ -56,11 +56,11 @@ onto-digits (suc k) n rest h = go (n / 10 == 0) more (onto-digits k (n / 10) (di
     go true one others = one
     go false one others = others
 
-number-of : (n : ℕ) → n < 10 ^ 64 → digits_number (decimal n) ≡ n
+pub number-of : (n : ℕ) → n < 10 ^ 64 → digits_number (decimal n) ≡ n
 unfolding digits
 number-of n h = onto-number 64 n [] h
 
-all-digits : (n : ℕ) → list_all is_digit (decimal n) ≡ true
+pub all-digits : (n : ℕ) → list_all is_digit (decimal n) ≡ true
 unfolding digits
 all-digits n = onto-digits 64 n [] refl
 
@@ -74,7 +74,7 @@ number-decimal n h =
     rw (some, few, all-digits n, value, small) refl
 
 -- a word of digits is none of one byte that is no digit
-no-digit : (word : List ℕ) (byte : ℕ) → byte < 48 → list_all is_digit word ≡ true → bytes_eq word (byte ∷ []) ≡ false
+pub no-digit : (word : List ℕ) (byte : ℕ) → byte < 48 → list_all is_digit word ≡ true → bytes_eq word (byte ∷ []) ≡ false
 no-digit [] byte small h = refl
 no-digit (b ∷ word) byte small h =
     let digit = and_parts (is_digit b) (list_all is_digit word) h in

@@ -70,17 +70,3 @@ load limits bytes = load_from limits limits.wire empty bytes
 -- all of these bytes are changes, which lead to this state
 abbrev pub LoadsTo : Limits → List ℕ → State → Type 0
 LoadsTo limits bytes m = load limits bytes ≡ Loads m (length bytes)
-
--- The first n bytes: `place` of them are whole requests, which load to some state. All n load to it too, unless their
--- rest breaks the journal because no record starts so.
-pub record FrontLoads (limits : Limits) (bytes : List ℕ) (n : ℕ) : Type 0 where
-  pub state : State
-  pub place : ℕ
-  pub within : place ≤ n
-  pub whole : load limits (take place bytes) ≡ Loads state place
-  pub loads : load limits (take n bytes) ≡ unless_foreign (take n bytes) (Loads state place)
-
--- wherever whole requests of the journal end, a record may start
-abbrev pub HasOnlyRecords : Limits → List ℕ → Type 0
-HasOnlyRecords limits bytes =
-    (place : ℕ) (m : State) → load limits (take place bytes) ≡ Loads m place → begins_as_record (drop place bytes) ≡ true

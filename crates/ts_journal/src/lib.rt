@@ -5,13 +5,12 @@ mod addition;
 mod changes;
 mod draft;
 mod laws;
+mod names;
 mod options;
 mod record;
 mod reply;
 mod triples;
 
-pub use laws::{
-    a_journal_grows_by_records, fronts_of_a_journal_load, records_read_back, steps_are_executed,
-    what_is_not_recorded_changes_nothing,
-};
+pub use laws::{records_read_back, steps_are_executed, what_is_not_recorded_changes_nothing};
+pub use names::{encoding_name, policy_name};
 pub use record::{Record, limits_of};

@@ -6,9 +6,9 @@ ghost use Rattle.ts_journal.specs.Draft.{AppendsWords};
 ghost use Rattle.ts_journal.specs.Record.{given, retention_words, encoding_words, chunk_size_words, policy_words};
 ghost use Rattle.ts_journal.specs.Record.{on_duplicate_words, ignore_words, label_pairs, labels_words, spec_words};
 ghost use Rattle.ts_journal.specs.Record.{change_words};
-ghost use Rattle.ts_journal.specs.Record as record_;
 
 use crate::draft::Draft;
+use crate::names::{encoding_name, policy_name};
 use std::alloc::AllocError;
 use ts_labels::{Change, Labels, Spec};
 use ts_spec::{Encoding, Ignore, Policy};
@@ -128,26 +128,4 @@ fn draft_label_pairs(draft: &mut Draft, labels: &Labels) -> Result<(), AllocErro
         draft.put_word(labels.value_at(i))?;
     }
     Ok(())
-}
-
-fn encoding_name(encoding: Encoding) -> &'static [u8]
-    ensures { result.now ≡ record_.encoding_name encoding }
-{
-    match encoding {
-        Encoding::Compressed => b"COMPRESSED",
-        Encoding::Uncompressed => b"UNCOMPRESSED",
-    }
-}
-
-fn policy_name(policy: Policy) -> &'static [u8]
-    ensures { result.now ≡ record_.policy_name policy }
-{
-    match policy {
-        Policy::Block => b"BLOCK",
-        Policy::First => b"FIRST",
-        Policy::Last => b"LAST",
-        Policy::Min => b"MIN",
-        Policy::Max => b"MAX",
-        Policy::Sum => b"SUM",
-    }
 }
