@@ -12,17 +12,17 @@
 //!   in each encoding; the `numbers` from one up to another; the `lengths` of a word, from one up to another;
 //! - a command, and after ` -> ` its expected reply: its lines, separated by ` | `, or `[1:2, 3:4]` for rows, each a
 //!   time and a value. A part in braces is repeated for each number: `#` is the number, and `@` the number as far from
-//!   the end. After `each `, the whole line is repeated so; after `each 60 `, it is repeated for each multiple of 60, and
-//!   the part in braces for the 60 numbers from there. `^` is the word, and in a reply the word as a bulk string;
+//!   the end. After `each `, the whole line is repeated so; after `each 60 `, it is repeated for each multiple of 60,
+//!   and the part in braces for the 60 numbers from there. `^` is the word, and in a reply the word as a bulk string;
 //! - `sends` and bytes of the input, or `gets` and bytes of the output, with the escapes `\r`, `\n` and `\t`;
 //! - `fails read` or `fails write`, and the numbers of the reads or writes that fail, such as `2`;
 //! - `link`: the following lines of this kind belong to a connection;
 //! - `ends`, the exit status if it is not 0, and the line on standard error;
 //! - `outcome` and the expected outcome of the library's `pipe`, which is then called instead of the program: the
 //!   requests executed, the bytes taken, and the end, such as `executed 1, taken 14, WriteFault`;
-//! - `session` and what is expected of the library's `Session::piece`, which is then called for two pieces instead of the
-//!   program: the requests executed, where an unfinished one begins, and the last result, such as `executed 1, place
-//!   Some(14), More`. The first piece has 4,096 bytes, or one, or with `cuts` any number;
+//! - `session` and what is expected of the library's `Session::piece`, which is then called for two pieces instead of
+//!   the program: the requests executed, where an unfinished one begins, and the last result, such as `executed 1,
+//!   place Some(14), More`. The first piece has 4,096 bytes, or one, or with `cuts` any number;
 //! - `executes`: the library's `execute` is then called for each request, at the clock reading 1000, instead of the
 //!   program;
 //! - `#` and a comment.

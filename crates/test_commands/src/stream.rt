@@ -74,15 +74,15 @@ enum Form {
     Once,
     // Once for each number.
     Each,
-    // Once for so many numbers at a time.
+    // Once for each group of this many numbers.
     EachGroup(usize),
     // Bytes as they are.
     Bytes,
 }
 
 impl Form {
-    // The form of a line that begins with `each `, from the text after it: a number may come first. Returns the form, and
-    // the text after the number.
+    // The form of a line that begins with `each `, from the text after it: a number may come first. Returns the form,
+    // and the text after the number.
     fn of_each(text: &str) -> (Form, &str) {
         if let Some((count, rest)) = text.split_once(' ') {
             if let Ok(count) = count.parse::<usize>() {
@@ -101,8 +101,8 @@ pub(crate) struct Line {
 }
 
 impl Line {
-    // Parses a line. After `each `, a command and its reply are repeated for each number, or for so many numbers at a
-    // time. After `sends ` and `gets ` come bytes. Returns `None` for anything else.
+    // Parses a line. After `each `, a command and its reply are repeated for each number, or for each group of numbers.
+    // After `sends ` and `gets ` come bytes. Returns `None` for anything else.
     pub(crate) fn read(alloc: Global, text: &str) -> Result<Option<Line>, AllocError> {
         if let Some(sent) = text.strip_prefix("sends ") {
             return Ok(Some(Line::of(alloc, sent, "", Form::Bytes)?));

@@ -4,7 +4,7 @@ use std::fs;
 use std::io::Write;
 use std::test::Fail;
 
-/// More pages of addresses than a program has. Only the checked build has so many; it does not free memory at once.
+/// More pages of addresses than a program has. Only the checked build has this many; it does not free memory at once.
 const CHECKED_PAGES: usize = 268_435_456;
 
 // A number of the file in which Linux says how many pages the process has: of addresses, and then of memory.

@@ -48,7 +48,8 @@ longer ps qs n limit more =
     ap (λ (l : List Point). length (packed l)) (append_assoc ps (take n qs) (drop n qs) ∙ ap (λ (l : List Point). ps ++ l) (take-append-drop n qs)) in
     grind (arith, nat_tests, grows-on packed no_fewer (ps ++ take n qs) (drop n qs))
 
--- What holds once the first so many of other samples have been taken over: they stand past those that there were, and the others are left.
+-- What holds once the first so many of other samples have been taken over: they stand past those that there were, and
+-- the others are left.
 pub record Taken (limit : ℕ) (ps qs : List Point) (s : State) (count now_limit : ℕ) (now left : List Point) (known : State) : Type 0 where
   pub list : now ≡ ps ++ take count qs
   pub rest : left ≡ drop count qs

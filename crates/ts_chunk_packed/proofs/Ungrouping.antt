@@ -10,7 +10,8 @@ use Rattle.ts_chunk_packed.specs.Packed.{number, number_of}
 use Rattle.ts_chunk_packed.specs.Reading.{Begins}
 use Rattle.ts_chunk_packed.proofs.Grouping.{small_first, large_first, last_byte, byte_more, number_back}
 
--- What holds while the number that bytes begin with is read: the bytes that are left begin with the rest of it, which has this weight.
+-- What holds while the number that bytes begin with is read: the bytes that are left begin with the rest of it, which
+-- has this weight.
 pub record IsReading (limit : ℕ) (bytes left : List ℕ) (sum weight : ℕ) : Type 0 where
   pub begins : Begins limit left
   pub worth : sum + weight * (number_of left).0 ≡ (number_of bytes).0

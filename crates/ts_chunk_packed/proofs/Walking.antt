@@ -14,8 +14,8 @@ use Rattle.ts_chunk_packed.specs.Decoder.{IsUndecoded, samples_from}
 use Rattle.ts_chunk_packed.proofs.Decoding.{sample_back}
 use Rattle.ts_chunk_packed.proofs.Listing.{starts_after, known_next}
 
--- What holds after some samples: the bytes that are left are those of the rest, and the walk goes on over it as it went over all, with a
--- step for each sample so far.
+-- What holds after some samples: the bytes that are left are those of the rest, and the walk goes on over it as it went
+-- over all, with a step for each sample so far.
 pub record Walked {V : Type 0} (step : V → Point → V) (places : V → ℕ) (from to : ℕ) (begins now : V) (all rest : List Point) (s : State) (left : List ℕ) (before steps count : ℕ) : Type 0 where
   pub bytes : left ≡ packed_from s rest
   pub known : IsKnown s

@@ -39,7 +39,8 @@ may_have_list-drop : (names : Option (List ℕ)) (n : ℕ) (words : List Word) �
 may_have_list-drop None n words h = refl
 may_have_list-drop (Some name) n words h = has_name-drop name n words h
 
--- What is given so far goes on to what all options say, added to what was given at first, and if words from here on may make a list, all may
+-- What is given so far goes on to what all options say, added to what was given at first, and if words from here on may
+-- make a list, all may
 abbrev pub GoesOn : (known : Table Setting) → (names : Option (List ℕ)) → (first given : Given) → (rest words : List Word) → Type 0
 GoesOn known names first given rest words = record {
   options : options known given 0 rest ≡ options known first 0 words;

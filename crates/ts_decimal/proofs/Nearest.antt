@@ -32,7 +32,8 @@ pub half_of_ten : (k : ℕ) → 0 < k → 2 * (10 ^ k / 2) ≡ 10 ^ k
 half_of_ten zero some = omega arith
 half_of_ten (suc k) some = omega (arith, pow-suc 10 k)
 
--- A decimal of these digits, scaled by ten to the power up over ten to the power down: it is first times ten to the power k, or too large.
+-- A decimal of these digits, scaled by ten to the power up over ten to the power down: it is first times ten to the
+-- power k, or too large.
 pub record IsRaised (n first up down k : ℕ) : Type 0 where
   pub large : bound < first * 10 ^ k → bound < nearest (n * 10 ^ up) (10 ^ down)
   pub exact : first * 10 ^ k ≤ bound → nearest (n * 10 ^ up) (10 ^ down) ≡ first * 10 ^ k

@@ -78,8 +78,8 @@ module _ (exchange : Exchange plain) where
   Writes bytes front end.Memory = SomeReplied bytes
   Writes bytes front end.WriteFault = FrameCut bytes
 
--- The prefix of a capture that was read, and the items that were answered. Before its last piece was read, every item of
--- the pieces before had been answered, and these pieces showed no error.
+-- The prefix of a capture that was read, and the items that were answered. Before its last piece was read, every item
+-- of the pieces before had been answered, and these pieces showed no error.
 pub record IsNear (items : List ℕ → List Item) (ending : List ℕ → Capture) (front : List ℕ) (done : List Item) : Type 0 where
   pub before : List ℕ
   pub piece : List ℕ

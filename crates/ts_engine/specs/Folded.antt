@@ -1,5 +1,5 @@
--- What `top` does in the mode `fold`: it puts a checkpoint in the place of a journal. The checkpoint loads to a database
--- that stores the same.
+-- What `top` does in the mode `fold`: it puts a checkpoint in the place of a journal. The checkpoint loads to a
+-- database that stores the same.
 use Rattle.std.specs.Prelude.{◌≡◌, ◌⊎◌, ◌<◌, ℕ, List, length, Option, Some, String}
 use Rattle.std.specs.declared.alloc.Global.{Global}
 use Rattle.ts_spec.specs.State.{State}

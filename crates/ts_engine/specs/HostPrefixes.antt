@@ -1,4 +1,5 @@
--- What each prefix of the journal that a host leaves loads to: the database within the run of requests that it answered.
+-- What each prefix of the journal that a host leaves loads to: the database within the run of requests that it
+-- answered.
 use Rattle.std.specs.Prelude.{◌≡◌, ℕ, ◌≤◌, List, [], ◌++◌, length, take, Option, Some}
 use Rattle.ts_spec.specs.declared.limits.Limits.{Limits}
 use Rattle.ts_mux.specs.declared.frame.Frame.{Frame}

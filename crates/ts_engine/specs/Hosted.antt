@@ -32,8 +32,8 @@ use Rattle.ts_engine.specs.HostPrefixes.{HostRun, HostPrefixes, run_of_answers, 
 use Rattle.ts_engine.specs.Opening.{NotLoaded, status_opened}
 use Rattle.ts_engine.specs.Top.{ReportsHost}
 
--- What a run in this mode shows, before and after: the output and the clock, the steps that come to the hub, and what it
--- let out. The last three say that a device is as it was.
+-- What a run in this mode shows, before and after: the output and the clock, the steps that come to the hub, and what
+-- it let out. The last three say that a device is as it was.
 pub record HostView : Type 1 where
   pub address : List ℕ
   pub budget : ℕ
@@ -179,8 +179,8 @@ module _ (run : HostView) (bytes : List ℕ) (left : Option (List ℕ)) where
       ⊎ (LoadsTo run.seen.limits content begun × (stored.kept begun ≡ stored.kept loaded))
 
   -- The journal was loaded, and then cut behind its last whole request or folded. The run began with that.
-  -- `prefixes`: each prefix of the journal that the run left loads; one that has the records of all replies that were let
-  -- out loads to a database after all their requests.
+  -- `prefixes`: each prefix of the journal that the run left loads; one that has the records of all replies that were
+  -- let out loads to a database after all their requests.
   pub record EndsLoaded (ended : HostEnd) : Type 0 where
     pub loaded : State
     pub place : ℕ

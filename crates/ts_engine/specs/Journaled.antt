@@ -66,8 +66,8 @@ exchange_over run loaded place failed held = record {
 }
 
 -- The journal was loaded and truncated after its last complete request, and the input was answered. The final journal
--- begins with what was loaded. Each prefix of it loads; one that contains what was loaded loads to a database within the
--- run whose replies were written.
+-- begins with what was loaded. Each prefix of it loads; one that contains what was loaded loads to a database within
+-- the run whose replies were written.
 pub record GoesOn (run : JournalRun) (bytes : List ℕ) (failed : Bool) (writes : Exchange journaled → Type 0) (handled : (exchange : Exchange journaled) → writes exchange → HandledRun) (replays : (exchange : Exchange journaled) → writes exchange → (front : List ℕ) → Type 0) : Type 0 where
   pub loaded : State
   pub place : ℕ

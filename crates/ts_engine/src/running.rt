@@ -49,8 +49,8 @@ pub fn usual_budget() -> u64
 /// - `mux` answers the interleaved connections of the capture in `input`, and writes each reply as a frame to `out`.
 ///
 /// Reads at most `budget` bytes of the input, of each connection and of the journal. Any status other than `Ended`
-/// writes its line to `err`. Those of `host` and `fold` end with the cause of a failed hub or journal, if the system told
-/// it.
+/// writes its line to `err`. Those of `host` and `fold` end with the cause of a failed hub or journal, if the system
+/// told it.
 pub fn top<S: Source, K: Sink, E: Sink, C: Clock, N: Listener, J: Log, H: Hub>(
     alloc: Global,
     words: &[String],
@@ -208,8 +208,8 @@ pub fn top<S: Source, K: Sink, E: Sink, C: Clock, N: Listener, J: Log, H: Hub>(
         (record { hub = H.last_cause hub.new; log = J.last_cause log.new })
         (E.has err.old) (E.has err.new) result }
 
-    // fold: a checkpoint is in the place of the journal afterwards, and loads to a database that stores the same; or the
-    // journal is as it was.
+    // fold: a checkpoint is in the place of the journal afterwards, and loads to a database that stores the same; or
+    // the journal is as it was.
     ensures folded { IsFold words.now → (journal : List ℕ) → J.content log.old ≡ Some journal
         → Folded limits budget journal (J.content log.new)
         (record { hub = None; log = J.last_cause log.new }) (E.has err.old) (E.has err.new) result }
@@ -255,9 +255,9 @@ pub fn top<S: Source, K: Sink, E: Sink, C: Clock, N: Listener, J: Log, H: Hub>(
     ensures no_journal_fault { result ≢ Status.JournalFault → result ≢ Status.WriteFault
         → J.faults log.new ≡ J.faults log.old }
 
-    // Only `pipe`, `keep` and `mux` use `input`; only `keep`, `host` with a journal, and `fold` use `log`; only `host` uses
-    // `hub`; only `serve` uses `net`, and closes every connection that it accepted. `gen` reads no clock; `fold` reads
-    // none either, and writes nothing to `out`.
+    // Only `pipe`, `keep` and `mux` use `input`; only `keep`, `host` with a journal, and `fold` use `log`; only `host`
+    // uses `hub`; only `serve` uses `net`, and closes every connection that it accepted. `gen` reads no clock; `fold`
+    // reads none either, and writes nothing to `out`.
     ensures input { (asked words.now ≡ Some Mode.Pipe → ⊥) → (IsKeep words.now → ⊥)
         → (asked words.now ≡ Some Mode.Mux → ⊥) → input.new ≡ input.old }
     ensures log { (IsKeep words.now → ⊥) → (IsJournalHost words.now → ⊥) → (IsFold words.now → ⊥)

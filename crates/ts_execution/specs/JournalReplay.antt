@@ -108,14 +108,14 @@ abbrev pub LoadsIf : (done : Bool) → (old new : Loading) → (bytes : List ℕ
 LoadsIf true old new bytes from to = LoadsOn old new bytes from to
 LoadsIf false old new bytes from to = ⊤
 
--- Whether the unfinished request begins as a record does: it begins in this piece, which is at offset `before`, or `was`
--- tells it.
+-- Whether the unfinished request begins as a record does: it begins in this piece, which is at offset `before`, or
+-- `was` tells it.
 abbrev pub still_record : (was : Bool) → (begin : Option ℕ) → (before : ℕ) → List ℕ → Bool
 still_record was None before piece = was
 still_record was (Some at) before piece = if nat_le before at then begins_as_record (drop (at - before) piece) else was
 
--- `taken` bytes of the journal at offset `before` were read, and every request that they complete was replayed. The flags
--- tell whether the unfinished request begins as a record does.
+-- `taken` bytes of the journal at offset `before` were read, and every request that they complete was replayed. The
+-- flags tell whether the unfinished request begins as a record does.
 pub record ReplaysPiece (before taken : ℕ) (was now : Bool) (left rest : Option (List ℕ)) (old new : Loading) (a b : DbView) : Type 0 where
   pub bytes : List ℕ
   pub took : Consumes left rest bytes
@@ -151,8 +151,8 @@ abbrev pub EndsWithin : Loaded → (read : ℕ) → Type 0
 EndsWithin (loaded.Whole place checkpoint) read = place ≤ read
 EndsWithin other read = ⊤
 
--- the result for a journal of `taken` bytes that has a checkpoint of this size, if its unfinished request begins at this
--- offset
+-- the result for a journal of `taken` bytes that has a checkpoint of this size, if its unfinished request begins at
+-- this offset
 abbrev pub verdict_at : Option ℕ → (checkpoint : ℕ) → (is_record : Bool) → (taken : ℕ) → Loaded
 verdict_at None checkpoint is_record taken = loaded.Whole taken checkpoint
 verdict_at (Some place) checkpoint is_record taken = if is_record then loaded.Whole place checkpoint else loaded.Broken place

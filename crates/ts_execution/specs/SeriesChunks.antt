@@ -13,7 +13,7 @@ abbrev pub chunks_of : List ℕ → List (List Point) → List Chunk
 chunks_of (n ∷ ns) (ps ∷ pss) = record { limit = n; list = ps } ∷ chunks_of ns pss
 chunks_of ns pss = []
 
--- a series of this key and these labels that has so many chunks in all, of which these are there
+-- a series of this key and these labels that has `pieces` chunks in all, of which these are there
 abbrev pub open_series : Key → List Label → (pieces : ℕ) → History → OpenSeries
 open_series key labels pieces h = record {
   head = record {

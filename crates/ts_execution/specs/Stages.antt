@@ -43,8 +43,8 @@ pub record Rest : Type 0 where
 abbrev pub rest_at : Stage → (end : ℕ) → Stream → Rest
 rest_at s end stream = record { ending = ending_of stream; checkpoint = checkpoint_at s end stream }
 
--- The stage after a part that ends at offset `place`, if so many parts are left. There is none if the last series waits
--- for chunks.
+-- The stage after a part that ends at offset `place`, with `left` parts still to come. There is none if the last series
+-- waits for chunks.
 abbrev pub stage_behind : (left : ℕ) → Option OpenSeries → (place : ℕ) → Option Stage
 stage_behind zero None place = Some (stage.Changes place)
 stage_behind zero (Some o) place = None
@@ -75,8 +75,8 @@ TakesRequest found.Nothing was now request end after from to = ⊥
 TakesRequest (found.Broken place) was now request end after from to = BreaksOn was request end after place from to
 TakesRequest found.Memory was now request end after from to = ⊤
 
--- A part that ends at offset `after` was taken, and so many are left: this stage comes next, or the journal breaks
--- there.
+-- A part that ends at offset `after` was taken, and `left` are still to come: this stage comes next, or the journal
+-- breaks there.
 abbrev pub EntersStage : NextChange → (left : ℕ) → Option OpenSeries → (after : ℕ) → (now : Stage) → Type 0
 EntersStage (found.Change end') left current after now = (end' ≡ after) × (stage_behind left current after ≡ Some now)
 EntersStage found.Nothing left current after now = ⊥

@@ -1,5 +1,5 @@
-//! Executes commands and handles requests: the effect of each on the database, its reply, its journal record, and the
-//! replay of a journal.
+//! Executes commands and handles requests: the effect of each on the database, its reply, and its journal record. Also
+//! loads a journal, and writes a checkpoint.
 #![tactic(auto)]
 
 mod answers;

@@ -10,7 +10,7 @@ use crate::open_series::OpenSeries;
 pub(crate) enum Stage {
     /// The first one: the head of a checkpoint, or a change.
     Start,
-    /// A part of the checkpoint, which has so many more after it. A series may wait for chunks.
+    /// A part of the checkpoint. This many more follow it. If a series is given, its chunks come next.
     Parts {
         more: u64,
         current: Option<OpenSeries>,
@@ -22,8 +22,8 @@ pub(crate) enum Stage {
 }
 
 impl Stage {
-    // Goes on after a part that ends at offset `after`, if so many parts are left. The journal breaks there if none
-    // are, and a series waits for chunks.
+    // Moves on after a part that ends at offset `after`, with `left` parts still to come. The journal breaks there if
+    // no part is left but a series waits for chunks.
     pub(crate) fn enter(&mut self, left: u64, current: Option<OpenSeries>, after: u64) -> NextChange
         ensures enters { EntersStage result left current after self.new }
         ensures some { result ≢ NextChange.Nothing }

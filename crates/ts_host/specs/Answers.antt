@@ -53,9 +53,9 @@ module _ {World : Type 0} (handles : World → Request → List ℕ → World �
   IsReply from (Asked request) text to = handles from request text to
   IsReply from (Failed fault) text to = (text ≡ protocol_error_text fault.kind) × (to ≡ from)
 
-  -- `Answers from counts items frames endings to counts' left`: the first of these items were answered in order, each by
-  -- a frame of its connection, and `left` are still to answer. At any moment a connection may end, with all its items
-  -- that are left; its end tells how many of its requests were executed.
+  -- `Answers from counts items frames endings to counts' left`: the first of these items were answered in order, each
+  -- by a frame of its connection, and `left` are still to answer. At any moment a connection may end, with all its
+  -- items that are left; its end tells how many of its requests were executed.
   pub data Answers : World → Counts → List Item → List Frame → List Ending → World → Counts → List Item → Type 0 where
     none : {at : World} {counts counts' : Counts} {items : List Item} → Agree counts counts' → Answers at counts items [] [] at counts' items
     reply : {from mid to : World} {counts next counts' : Counts} {item : Item} {items left : List Item} {text : List ℕ} {frames : List Frame} {endings : List Ending}

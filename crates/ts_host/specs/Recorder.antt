@@ -6,7 +6,8 @@ use Rattle.ts_execution.specs.Handling.{World}
 use Rattle.ts_execution.specs.Journaling.{Recorded}
 use Rattle.ts_host.specs.declared.recorder.Recorder.{Recorder}
 
--- A request was handled, and `bytes` are what a log is given for it: its record, or anything if no log knows its content.
+-- A request was handled, and `bytes` are what a log is given for it: its record, or anything if no log knows its
+-- content.
 pub record IsHandled {J : Type 0} (content : J → Option (List ℕ)) (request : Request) (from : World) (written bytes : List ℕ) (to : World) : Type 0 where
   pub record_ : List ℕ
   pub recorded : Recorded request from written record_ to

@@ -37,8 +37,8 @@ taken_by c = c.taken
 
 -- ---- the whole host
 
--- The items still to answer, as a function of the steps that follow; the counts of executed requests; and the world. The
--- content of its journal includes the records that wait.
+-- The items still to answer, as a function of the steps that follow; the counts of executed requests; and the world.
+-- The content of its journal includes the records that wait.
 pub record Progress : Type 0 where
   pub items : List Step → List Item
   pub counts : Counts

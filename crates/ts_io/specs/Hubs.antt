@@ -43,7 +43,8 @@ pub record LetsOut (old new : Outgoing) : Type 0 where
 abbrev pub Gives : {T E : Type 0} → Result T E → (old new : Outgoing) → Piece → Type 0
 Gives r old new piece = MatchResult r (λ _. Gains old new piece) (λ _. Same old new)
 
--- the state of a hub in memory: the steps to come, the bytes at hand, the pieces let out, those given since, and the calls
+-- the state of a hub in memory: the steps to come, the bytes at hand, the pieces let out, those given since, and the
+-- calls
 pub record MemHubState : Type 0 where
   pub coming : List Step
   pub hand : List ℕ

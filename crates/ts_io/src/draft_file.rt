@@ -72,8 +72,8 @@ impl DraftFile {
         self.file
     }
 
-    /// Closes the draft and removes its file, which frees the space on the disk. A file that can't be removed stays until
-    /// the next draft.
+    /// Closes the draft and removes its file, which frees the space on the disk. A file that can't be removed stays
+    /// until the next draft.
     pub(crate) fn remove<R: Files<File = File>>(self, rt: &R) {
         let _ = self.remove_name(rt);
     }

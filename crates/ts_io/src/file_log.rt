@@ -54,9 +54,9 @@ impl<R: Files<File = File> + AllocGlobal> Log for FileLog<R> {
 
     ghost last_cause = { last_log_cause_of };
 
-    /// Opens and locks the file, creating it if it does not exist. The file that was open is closed first. The folder is
-    /// synced, so that a new name outlives a power failure. Fails without changing the file if another log has it open,
-    /// if it is not a regular file, or if the name no longer leads to it.
+    /// Opens and locks the file, creating it if it does not exist. The file that was open is closed first. The folder
+    /// is synced, so that a new name outlives a power failure. Fails without changing the file if another log has it
+    /// open, if it is not a regular file, or if the name no longer leads to it.
     fn open(&mut self, name: &str) -> Result<(), Failed>
         ensures start { OnOk result (log_position_of self.new ≡ 0) }
         ensures failed { OnErr result (log_position_of self.new ≡ log_position_of self.old) }

@@ -28,8 +28,8 @@ pub(crate) fn open_locked<R: Files<File = File>>(rt: &R, name: &str) -> io::Resu
     Ok(file)
 }
 
-// Syncs the folder of an opened file, since a run that was killed may have given it its name without that. An older file
-// may lie in a folder that this user can't read.
+// Syncs the folder of an opened file, since a run that was killed may have given it its name without that. An older
+// file may lie in a folder that this user can't read.
 fn sync_name<R: Files<File = File>>(rt: &R, name: &str, is_new: bool) -> io::Result<()> {
     match sync_folder(rt, name) {
         Err(error) if !is_new && error.kind() == ErrorKind::PermissionDenied => Ok(()),

@@ -32,8 +32,8 @@ pub trait Log {
     /// Why the last call that failed did so, if the system told.
     ghost last_cause: { Self → Option Cause };
 
-    /// Opens the log with this name and moves to its start. Creates an empty one if it does not exist. There is no draft
-    /// then.
+    /// Opens the log with this name and moves to its start. Creates an empty one if it does not exist. There is no
+    /// draft then.
     fn open(&mut self, name: &str) -> Result<(), Failed>
         ensures content { content self.new ≡ content self.old }
         ensures draft { drafted self.new ≡ None }
@@ -97,9 +97,9 @@ pub trait Log {
         ensures place { place self.new ≡ place self.old }
         ensures cause { HasCause (faults self.old) (faults self.new) result };
 
-    /// Puts the draft in the place of the content, as a whole: later appends go to its end. Returns `Ok` once the device
-    /// reports that the new content survives a crash of the system. Fails if there is no draft. In each case there is
-    /// none afterwards.
+    /// Puts the draft in the place of the content, as a whole: later appends go to its end. Returns `Ok` once the
+    /// device reports that the new content survives a crash of the system. Fails if there is no draft. In each case
+    /// there is none afterwards.
     fn publish(&mut self) -> Result<(), Failed>
         ensures done { OnOk result (content self.new ≡ drafted self.old) }
 

@@ -22,7 +22,8 @@ item_texts shown xs = texts (reply_list (map shown xs))
 pub array-text : {X : Type 0} (shown : X → Reply) (xs : List X) → line_text 42 (decimal (length xs)) ++ item_texts shown xs ≡ text (array (map shown xs))
 array-text shown xs = ap (λ (k : ℕ). line_text 42 (decimal k) ++ item_texts shown xs) (sym (length-map xs shown) ∙ sym (count-reply_list (map shown xs)))
 
--- the texts of the items that are left, after those that were written, are those of all behind what was there at the start
+-- the texts of the items that are left, after those that were written, are those of all behind what was there at the
+-- start
 abbrev pub GoesOn : {X : Type 0} → (X → Reply) → (start now : List ℕ) → (rest all : List X) → Type 0
 GoesOn shown start now rest all = now ++ item_texts shown rest ≡ start ++ item_texts shown all
 

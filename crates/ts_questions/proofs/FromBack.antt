@@ -52,7 +52,8 @@ emitted-full has all rest left full so_far =
 
 -- ---- what was decoded
 
--- from a time past the end of what is left, behind which no chunk is cut, to a later one no more were decoded than there are
+-- from a time past the end of what is left, behind which no chunk is cut, to a later one no more were decoded than
+-- there are
 pub record HasEnd (pieces : List (List Point)) (end last old new : ℕ) : Type 0 where
   pub time : ℕ
   pub seam : IsSeam (suc time) pieces

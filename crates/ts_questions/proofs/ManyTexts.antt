@@ -31,7 +31,8 @@ abbrev onto_all : {X : Type 0} → List X → Option (List X) → Option (List X
 onto_all done None = None
 onto_all done (Some others) = Some (done ++ others)
 
--- what is told so far is told of the first keys, and the numbers that are left are those of the others; it is written, unless memory was lost
+-- what is told so far is told of the first keys, and the numbers that are left are those of the others; it is written,
+-- unless memory was lost
 pub record SoFar {X Y : Type 0} (written : X → List Y) (told : Key → Option X) (ids : Keyed Id) (keys : List Key) (rest : List Id) (start now : List Y) (lost : Bool) : Type 0 where
   pub done : List X
   pub left : List Key

@@ -130,7 +130,8 @@ take-back n m [] ys le = take-take n m ys le
 take-back zero m (x ∷ xs) ys le = refl
 take-back (suc n) m (x ∷ xs) ys le = ap (λ (rs : List Row). x ∷ rs) (take-back n m xs ys (omega arith))
 
--- the rows that were found, of which there are no more than are wanted, and those that are left, all of them the last one first
+-- the rows that were found, of which there are no more than are wanted, and those that are left, all of them the last
+-- one first
 pub record AreFound (n : ℕ) (found left all : List Row) : Type 0 where
   pub few : length found ≤ n
   pub same : take n (found ++ reverse left) ≡ take n (reverse all)

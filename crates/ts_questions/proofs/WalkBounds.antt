@@ -147,8 +147,8 @@ times-few (suc (suc zero)) n le = omega arith
 times-few (suc (suc (suc zero))) n le = omega arith
 times-few (suc (suc (suc (suc k)))) n le = absurd (omega arith)
 
--- an interval is walked over from its end on: whatever the walk takes over what is left of it, up to an earlier time, is all but
--- so many cuts, and what was taken already
+-- an interval is walked over from its end on: whatever the walk takes over what is left of it, up to an earlier time,
+-- is all but so many cuts, and what was taken already
 abbrev pub GoesOn : List (List Point) → (n from to end cuts old now : ℕ) → Type 0
 GoesOn pieces n from to end cuts old now = (more new : ℕ) → IsSeamed pieces from end (now + more) new → IsSeamed pieces from to (old + times cuts n + more) new
 

@@ -39,7 +39,8 @@ pub filling-to : (l g' : ℤ) (n g d : ℕ) → g' ≡ l +ℤ pos g → AllTo g'
 filling-to l g' zero g d e = tt
 filling-to l g' (suc n) g d e = (omega (arith, ints), filling-to l g' n g (d - min g d) e)
 
--- it has the least where the sum is no more than that of one number fewer, and the greatest where it is no less than the greatest
+-- it has the least where the sum is no more than that of one number fewer, and the greatest where it is no less than
+-- the greatest
 pub filling-least : (l : ℤ) (k g d : ℕ) → d ≤ sums k g → Has l (raised l (filling (suc k) g d))
 filling-least l zero g d h = inl (omega (arith, ints))
 filling-least l (suc k) g d h = inr (filling-least l k g (d - min g d) (omega arith))
@@ -78,7 +79,7 @@ pub length-raised : (l : ℤ) (xs : List ℕ) → length (raised l xs) ≡ lengt
 length-raised l [] = refl
 length-raised l (x ∷ xs) = let ih : length (raised l xs) ≡ length xs = length-raised l xs in omega arith
 
--- so many times the greatest is as many times the least, and the gaps
+-- n times the greatest value is n times the least one and n gaps
 pub times-gap : (n g : ℕ) (l g' : ℤ) → g' ≡ l +ℤ pos g → times n g' ≡ times n l +ℤ pos (sums n g)
 times-gap zero g l g' e = refl
 times-gap (suc n) g l g' e = let ih : times n g' ≡ times n l +ℤ pos (sums n g) = times-gap n g l g' e in omega (arith, ints)

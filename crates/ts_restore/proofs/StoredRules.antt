@@ -16,13 +16,13 @@ use Rattle.ts_restore.specs.Restorable.{IsBucket, IsRule}
 use Rattle.ts_restore.proofs.LaidRules.{within-bucket, last-low}
 
 -- P holds for the first sample, and for the others
-every-first : (P : Point → Type 0) (p : Point) (ps : List Point) → Every P (p ∷ ps) → P p
+pub every-first : (P : Point → Type 0) (p : Point) (ps : List Point) → Every P (p ∷ ps) → P p
 every-first P p ps h = h p.time p (ap (λ (b : Bool). cond b (Some p) (at p.time ps)) (same p.time))
   where
     same : (t : ℕ) → (t == t) ≡ true
     same t = grind arith
 
-every-rest : (P : Point → Type 0) (p : Point) (ps : List Point) → IsAscending (p ∷ ps) → Every P (p ∷ ps) → Every P ps
+pub every-rest : (P : Point → Type 0) (p : Point) (ps : List Point) → IsAscending (p ∷ ps) → Every P (p ∷ ps) → Every P ps
 every-rest P p ps up h t q e = h t q (go (p.time == t) refl)
   where
     go : (b : Bool) → (p.time == t) ≡ b → cond b (Some p) (at t ps) ≡ Some q

@@ -136,7 +136,7 @@ fn middle(parts: &SummaryParts) -> i128
     parts.sum - parts.first.get() - parts.last.get()
 }
 
-// So many times a value.
+// The sum of `count` samples that all have this value.
 fn times(count: u64, value: Units) -> i128
     requires { count ≤ MOST }
     ensures value { result ≡ times count value }

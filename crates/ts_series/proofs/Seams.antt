@@ -90,7 +90,8 @@ inner-few f l (suc i) (suc j) (ps ∷ pss) le n m =
       inner-few f l i j pss (omega arith) (none-right (nat_le f) ps (joined (take i pss)) n) m,
     )
 
--- A time, no later than another that is past the front of a list, where the front ends before it and the rest begins from it on.
+-- A time, no later than another that is past the front of a list, where the front ends before it and the rest begins
+-- from it on.
 pub record Parts (t : ℕ) (ps qs : List Point) : Type 0 where
   pub time : ℕ
   pub upto : time ≤ t

@@ -5,7 +5,8 @@ use Rattle.ts_questions.proofs.RowsSplit.{AreFound}
 use Rattle.ts_questions.proofs.WalkBounds.{GoesOn}
 use Rattle.ts_questions.proofs.reversed_samples.last_rows.Given as goal
 
--- what was found, and what is left, have the rows that are wanted; and no more was decoded than once, and a chunk for each share
+-- what was found, and what is left, have the rows that are wanted; and no more was decoded than once, and a chunk for
+-- each share
 abbrev pub invariant-loop-found : goal.invariant-loop-found
 invariant-loop-found g l = record {
   inside : (l.from ≤ l.end) × (l.end ≤ l.series_query.query.now.to);
