@@ -12,7 +12,7 @@ use ts_sample::Steps;
 use ts_spec::Limits;
 
 mod again;
-mod call;
+pub(crate) mod call;
 mod faults;
 mod queries;
 mod refused;

@@ -4,6 +4,10 @@
 #[cfg(test)]
 mod db;
 #[cfg(test)]
+mod restored;
+#[cfg(test)]
+mod restored_series;
+#[cfg(test)]
 mod rules;
 #[cfg(test)]
 mod series;

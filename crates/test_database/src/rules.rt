@@ -4,7 +4,7 @@ use std::marker::Brand;
 use std::sync::ledger::Blank;
 use std::test::*;
 
-mod case;
+pub(crate) mod case;
 
 #[test]
 fn writes(rt: HostRuntime) {

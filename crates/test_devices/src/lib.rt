@@ -6,6 +6,10 @@ mod adapters;
 #[cfg(test)]
 mod batches;
 #[cfg(test)]
+mod draft_faults;
+#[cfg(test)]
+mod drafts;
+#[cfg(test)]
 mod hubs;
 #[cfg(test)]
 mod logs;
@@ -15,3 +19,5 @@ mod memory;
 mod network;
 #[cfg(test)]
 mod peer;
+#[cfg(test)]
+mod staged_files;

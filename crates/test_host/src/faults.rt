@@ -20,7 +20,7 @@ fn a_failing_hub_ends_the_run(rt: HostRuntime) -> Result<(), Fail> {
         error: "tsd: accept fault\n",
         ..COMING
     };
-    const TALKS: [Talk; 4] = [
+    const TALKS: [Talk; 7] = [
         Talk {
             name: "the address cannot be opened",
             hub_fails: &[1],
@@ -35,6 +35,21 @@ fn a_failing_hub_ends_the_run(rt: HostRuntime) -> Result<(), Fail> {
         Talk {
             name: "it does not take the first reply",
             hub_fails: &[3],
+            ..FAILED
+        },
+        Talk {
+            name: "it fails before the next bytes",
+            hub_fails: &[4],
+            ..FAILED
+        },
+        Talk {
+            name: "it does not take the second reply",
+            hub_fails: &[5],
+            ..FAILED
+        },
+        Talk {
+            name: "it fails before a link closes",
+            hub_fails: &[6],
             ..FAILED
         },
         Talk {

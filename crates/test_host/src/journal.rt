@@ -1,16 +1,30 @@
-// The journal: what it keeps, what a later run has of it, and that nobody is told what it does not keep.
+// The journal: what it keeps, and what a later run has of it.
 use crate::run::check;
 use crate::talk::{Event, QUIET, Talk};
 use std::test::Fail;
 
+mod refused;
+
 // The records of changes.
-const CREATED: &str = "*14\r\n$9\r\nTS.CREATE\r\n$1\r\na\r\n$9\r\nRETENTION\r\n$1\r\n0\r\n\
+pub(crate) const CREATED: &str =
+    "*14\r\n$9\r\nTS.CREATE\r\n$1\r\na\r\n$9\r\nRETENTION\r\n$1\r\n0\r\n\
     $8\r\nENCODING\r\n$10\r\nCOMPRESSED\r\n$10\r\nCHUNK_SIZE\r\n$4\r\n4096\r\n\
     $16\r\nDUPLICATE_POLICY\r\n$5\r\nBLOCK\r\n$6\r\nIGNORE\r\n$1\r\n0\r\n$1\r\n0\r\n$6\r\nLABELS\r\n";
 
-const ADDED: &str = "*4\r\n$7\r\nTS.MADD\r\n$1\r\na\r\n$2\r\n10\r\n$1\r\n1\r\n";
+// Those of a new series, and of one with a first sample, before and behind its key.
+const CREATE: &str = "*14\r\n$9\r\nTS.CREATE\r\n$1\r\n";
 
-const DELETED: &str = "*2\r\n$3\r\nDEL\r\n$1\r\na\r\n";
+const ADD: &str = "*16\r\n$6\r\nTS.ADD\r\n$1\r\n";
+
+const ONE_AT_TEN: &str = "\r\n$2\r\n10\r\n$1\r\n1";
+
+const OPTIONS: &str = "\r\n$9\r\nRETENTION\r\n$1\r\n0\r\n\
+    $8\r\nENCODING\r\n$10\r\nCOMPRESSED\r\n$10\r\nCHUNK_SIZE\r\n$4\r\n4096\r\n\
+    $16\r\nDUPLICATE_POLICY\r\n$5\r\nBLOCK\r\n$6\r\nIGNORE\r\n$1\r\n0\r\n$1\r\n0\r\n$6\r\nLABELS\r\n";
+
+pub(crate) const ADDED: &str = "*4\r\n$7\r\nTS.MADD\r\n$1\r\na\r\n$2\r\n10\r\n$1\r\n1\r\n";
+
+pub(crate) const DELETED: &str = "*2\r\n$3\r\nDEL\r\n$1\r\na\r\n";
 
 #[test]
 fn a_later_run_has_what_was_kept(rt: HostRuntime) -> Result<(), Fail> {
@@ -40,6 +54,7 @@ fn a_later_run_has_what_was_kept(rt: HostRuntime) -> Result<(), Fail> {
             had: &[CREATED, ADDED],
             sent: &[(1, "*2\r\n:10\r\n+1\r\n"), (1, ":1\r\n")],
             has: &[CREATED, ADDED, DELETED],
+            synced: &[3],
             ..QUIET
         },
         Talk {
@@ -67,67 +82,61 @@ fn a_later_run_has_what_was_kept(rt: HostRuntime) -> Result<(), Fail> {
     Ok(())
 }
 
-// The calls of an empty journal: it is opened, read and cut, and then each wake-up with changes has one call; with
-// `sync` it has two.
-#[test]
-fn what_is_not_kept_is_not_told(rt: HostRuntime) -> Result<(), Fail> {
-    const EVENTS: &[Event] = &[
+// Two links, each of which creates keys of its own, in two wake-ups.
+pub(crate) const OWN_KEYS: Talk = Talk {
+    name: "keys of two links",
+    words: "host here j",
+    events: &[
         Event::Sends(1, "TS.CREATE a\r\n"),
-        Event::Sends(2, "TS.MADD a 10 1\r\n"),
+        Event::Sends(2, "TS.ADD b 10 1\r\nTS.CREA"),
         Event::Pauses,
-        Event::Sends(1, "PING\r\n"),
-        Event::Pauses,
-        Event::Sends(2, "PING\r\nDEL a\r\n"),
-        Event::Closes(1),
-        Event::Pauses,
-        Event::Sends(1, "PING\r\n"),
-    ];
-    const FAILED: Talk = Talk {
+        Event::Sends(2, "TE c\r\n"),
+        Event::Sends(1, "TS.ADD d 10 1\r\n"),
+        Event::Sends(2, "TS.CREATE e\r\n"),
+    ],
+    sent: &[
+        (1, "+OK\r\n"),
+        (2, ":10\r\n"),
+        (2, "+OK\r\n"),
+        (1, ":10\r\n"),
+        (2, "+OK\r\n"),
+    ],
+    has: &[
+        CREATE, "a", OPTIONS, ADD, "b", ONE_AT_TEN, OPTIONS, CREATE, "c", OPTIONS, ADD, "d",
+        ONE_AT_TEN, OPTIONS, CREATE, "e", OPTIONS,
+    ],
+    ..QUIET
+};
+
+#[test]
+fn records_have_the_order_of_the_requests(rt: HostRuntime) -> Result<(), Fail> {
+    check(&rt, rt.alloc(), &[OWN_KEYS])?;
+    Ok(())
+}
+
+#[test]
+fn single_samples_are_recorded(rt: HostRuntime) -> Result<(), Fail> {
+    const TALKS: [Talk; 1] = [Talk {
+        name: "a sample, one that is refused, and one with a policy of its own",
         words: "host here j",
-        events: EVENTS,
-        status: 9,
-        error: "tsd: journal fault\n",
+        events: &[
+            Event::Sends(1, "TS.ADD a 10 -1.50\r\nTS.ADD a 10 2\r\n"),
+            Event::Sends(2, "ts.add a 10 2 on_duplicate max\r\n"),
+        ],
+        sent: &[
+            (1, ":10\r\n"),
+            (1, "-ERR TSDB: duplicate sample\r\n"),
+            (2, ":10\r\n"),
+        ],
+        has: &[
+            ADD,
+            "a\r\n$2\r\n10\r\n$4\r\n-1.5",
+            OPTIONS,
+            "*18\r\n$6\r\nTS.ADD\r\n$1\r\na\r\n$2\r\n10\r\n$1\r\n2\r\n$12\r\nON_DUPLICATE\r\n$3\r\nMAX",
+            OPTIONS,
+        ],
         ..QUIET
-    };
-    const SENT: &[(u64, &str)] = &[(1, "+OK\r\n"), (2, "*1\r\n:10\r\n"), (1, "+PONG\r\n")];
-    const LINES: &str = "ready here\nlink 1 executed 2 ended\n";
-    const TALKS: [Talk; 5] = [
-        Talk {
-            name: "it cannot be opened",
-            journal_fails: &[1],
-            lines: "",
-            ..FAILED
-        },
-        Talk {
-            name: "the first write fails",
-            journal_fails: &[4],
-            ..FAILED
-        },
-        Talk {
-            name: "the second write fails",
-            journal_fails: &[5],
-            sent: SENT,
-            lines: LINES,
-            has: &[CREATED, ADDED],
-            ..FAILED
-        },
-        Talk {
-            name: "the first sync fails",
-            words: "host here j sync",
-            journal_fails: &[5],
-            has: &[CREATED, ADDED],
-            ..FAILED
-        },
-        Talk {
-            name: "the second sync fails",
-            words: "host here j sync",
-            journal_fails: &[7],
-            sent: SENT,
-            lines: LINES,
-            has: &[CREATED, ADDED, DELETED],
-            ..FAILED
-        },
-    ];
+    }];
     check(&rt, rt.alloc(), &TALKS)?;
     Ok(())
 }

@@ -1,4 +1,5 @@
-//! Tests of the mode `host`: `top` over a hub, a journal and outputs in memory. Each test is a table of talks.
+//! Tests of the modes `host` and `fold`: `top` over a hub, a journal and outputs in memory. Each test is a table of
+//! talks.
 #![tactic(auto)]
 
 #[cfg(test)]
@@ -6,10 +7,16 @@ mod ends;
 #[cfg(test)]
 mod faults;
 #[cfg(test)]
+mod folds;
+#[cfg(test)]
 mod journal;
+#[cfg(test)]
+mod journal_faults;
 #[cfg(test)]
 mod links;
 #[cfg(test)]
 mod run;
+#[cfg(test)]
+mod short_log;
 #[cfg(test)]
 mod talk;

@@ -1,4 +1,5 @@
 // Runs the program over devices in memory.
+use crate::short_log::ShortLog;
 use crate::talk::{Talk, steps_of};
 use std::alloc::{AllocError, Global};
 use std::process::Abort;
@@ -7,11 +8,11 @@ use ts_io::{MemClock, MemHub, MemListener, MemLog, MemSink, MemSource, Packet};
 
 // What a run leaves.
 #[derive(Drop)]
-struct Seen {
-    hub: MemHub,
+pub(crate) struct Seen {
+    pub(crate) hub: MemHub,
     out: MemSink,
     err: MemSink,
-    log: MemLog,
+    pub(crate) log: ShortLog,
     status: Status,
 }
 
@@ -34,6 +35,8 @@ fn difference(alloc: Global, talk: &Talk) -> Result<&'static str, AllocError> {
         Ok("the output")
     } else if seen.log.bytes() != journal.as_slice() {
         Ok("the journal")
+    } else if !are_synced(seen.log.synced(), talk) {
+        Ok("the syncs of the journal")
     } else if seen.status.code() != talk.status {
         Ok("the exit status")
     } else if seen.err.bytes() != talk.error.as_bytes() {
@@ -43,14 +46,21 @@ fn difference(alloc: Global, talk: &Talk) -> Result<&'static str, AllocError> {
     }
 }
 
-fn run(alloc: Global, talk: &Talk) -> Result<Seen, AllocError> {
+// Runs the program over the journal of this talk.
+pub(crate) fn run(alloc: Global, talk: &Talk) -> Result<Seen, AllocError> {
+    run_over(alloc, talk, joined(alloc, talk.had)?)
+}
+
+// The same over this journal.
+pub(crate) fn run_over(alloc: Global, talk: &Talk, journal: Vec<u8>) -> Result<Seen, AllocError> {
     let mut input = MemSource::new(Vec::new(alloc), 1, Vec::new(alloc));
     let mut out = MemSink::new(alloc, 4096, Vec::from_slice(alloc, talk.output_fails)?);
     let mut err = MemSink::new(alloc, 4096, Vec::new(alloc));
     let mut clock = MemClock::new(Vec::new(alloc));
     let mut net = MemListener::new(alloc, Vec::new(alloc), Vec::new(alloc))?;
     let failing = Vec::from_slice(alloc, talk.journal_fails)?;
-    let mut log = MemLog::new(joined(alloc, talk.had)?, failing);
+    let log = MemLog::new(journal, failing);
+    let mut log = ShortLog::new(log, talk.is_journal_slow, Vec::new(alloc));
     let failing = Vec::from_slice(alloc, talk.hub_fails)?;
     let mut hub = MemHub::new(alloc, steps_of(alloc, talk.events)?, failing);
     let status = top(
@@ -98,6 +108,19 @@ fn are_sent(packets: &[Packet], expected: &[(u64, &str)]) -> bool {
     let mut all = packets.len() == expected.len();
     for (packet, (link, text)) in packets.iter().zip(expected) {
         all = all && packet.link == *link && packet.bytes.as_slice() == text.as_bytes();
+    }
+    all
+}
+
+// Whether the journal had these many of its records at each sync.
+fn are_synced(lengths: &[usize], talk: &Talk) -> bool {
+    let mut all = lengths.len() == talk.synced.len();
+    for (length, records) in lengths.iter().zip(talk.synced) {
+        let mut bytes = 0_usize;
+        for text in talk.has.iter().take(*records) {
+            bytes = bytes.saturating_add(text.len());
+        }
+        all = all && *length == bytes;
     }
     all
 }

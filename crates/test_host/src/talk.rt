@@ -29,6 +29,8 @@ pub(crate) struct Talk {
     pub(crate) hub_fails: &'static [u64],
     pub(crate) output_fails: &'static [u64],
     pub(crate) journal_fails: &'static [u64],
+    // Whether the journal takes one byte in a call.
+    pub(crate) is_journal_slow: bool,
     // The content of the journal before the run.
     pub(crate) had: &'static [&'static str],
     // The packets that were let out, each with the number of its link.
@@ -37,6 +39,8 @@ pub(crate) struct Talk {
     pub(crate) lines: &'static str,
     // The content of the journal after the run.
     pub(crate) has: &'static [&'static str],
+    // How many of these texts it had at each sync.
+    pub(crate) synced: &'static [usize],
     // The exit status, and the line on standard error.
     pub(crate) status: u8,
     pub(crate) error: &'static str,
@@ -50,10 +54,12 @@ pub(crate) const QUIET: Talk = Talk {
     hub_fails: &[],
     output_fails: &[],
     journal_fails: &[],
+    is_journal_slow: false,
     had: &[],
     sent: &[],
     lines: "ready here\n",
     has: &[],
+    synced: &[],
     status: 0,
     error: "",
 };
