@@ -1,13 +1,88 @@
 -- The check number of a list of words and one more, and of words that differ in one byte.
-use Rattle.std.proofs.Common.{◌≡◌, ◌≢◌, ℕ, ◌+◌, ◌*◌, ◌/◌, ◌<◌, inl, inr, List, [], ◌∷◌, ◌++◌, fold, ap, sym, ◌∙◌, arith, mod-lt}
+use Rattle.std.proofs.Common.{◌≡◌, ◌≢◌, ℕ, ◌+◌, ◌*◌, ◌/◌, ◌%◌, ◌<◌, inl, inr, List, [], ◌∷◌, ◌++◌, fold, length, ap, refl, sym, ◌∙◌, arith, mod-lt}
 use Rattle.std.proofs.lemmas.Bool.{cases_order}
-use Rattle.std.proofs.lemmas.Nat.{div-add-mod'}
+use Rattle.std.proofs.lemmas.Nat.{div-add-mod', mul-mod_second}
+use Rattle.std.proofs.Math.Nat.{mod-add-mod, add-mul-mod_self_left}
 use Rattle.std.proofs.lemmas.Grind.{fold-append}
-use Rattle.ts_restore.specs.CheckNumber.{MODULUS, WORD_END, check_symbol, check_word, check_number}
+use Rattle.ts_restore.specs.CheckNumber.{MODULUS, WORD_END, check_symbol, check_word, check_number, number}
 
 -- adding a word to the check number of a list gives that of the list with the word
 pub one_more : (old new : ℕ) (word : List ℕ) → new ≡ check_word old word → (words : List (List ℕ)) → old ≡ check_number words → new ≡ check_number (words ++ word ∷ [])
 one_more old new word is words e = is ∙ ap (λ (n : ℕ). check_word n word) e ∙ sym (fold-append check_word 0 words (word ∷ []))
+
+-- ---- several symbols at once
+
+-- k times a number and some more have the remainder that k times its remainder and some more have
+same-left : (k x more : ℕ) → (k * (x % MODULUS) + more) % MODULUS ≡ (k * x + more) % MODULUS
+same-left k x more =
+    sym (mod-add-mod (k * (x % MODULUS)) MODULUS more)
+    ∙ ap (λ (n : ℕ). (n + more) % MODULUS) (mul-mod_second k x MODULUS)
+    ∙ mod-add-mod (k * x) MODULUS more
+
+-- one more symbol, where k is a power of 257 and `so_far` the number of the symbols so far
+next-symbol : (k x so_far symbol : ℕ) → check_symbol ((k * x + so_far) % MODULUS) symbol ≡ (257 * k * x + (257 * so_far + symbol + 1)) % MODULUS
+next-symbol k x so_far symbol =
+    ap (λ (n : ℕ). n % MODULUS) one ∙ same-left 257 (k * x + so_far) (symbol + 1) ∙ ap (λ (n : ℕ). n % MODULUS) two
+  where
+    one : 257 * ((k * x + so_far) % MODULUS) + symbol + 1 ≡ 257 * ((k * x + so_far) % MODULUS) + (symbol + 1)
+    one = omega arith
+
+    two : 257 * (k * x + so_far) + (symbol + 1) ≡ 257 * k * x + (257 * so_far + symbol + 1)
+    two = grind arith
+
+four-symbols : (x a b c d : ℕ) → fold check_symbol x (a ∷ b ∷ c ∷ d ∷ []) ≡ (4362470401 * x + number (a ∷ b ∷ c ∷ d ∷ [])) % MODULUS
+four-symbols x a b c d =
+    ap (λ (n : ℕ). check_symbol (check_symbol (check_symbol n b) c) d) (ap (λ (n : ℕ). n % MODULUS) first)
+    ∙ ap (λ (n : ℕ). check_symbol (check_symbol n c) d) (next-symbol 257 x (a + 1) b)
+    ∙ ap (λ (n : ℕ). check_symbol n d) (next-symbol 66049 x (257 * (a + 1) + b + 1) c)
+    ∙ next-symbol 16974593 x (257 * (257 * (a + 1) + b + 1) + c + 1) d
+    ∙ ap (λ (n : ℕ). n % MODULUS) last
+  where
+    first : 257 * x + a + 1 ≡ 257 * x + (a + 1)
+    first = omega arith
+
+    last : 257 * 16974593 * x + (257 * (257 * (257 * (a + 1) + b + 1) + c + 1) + d + 1) ≡ 4362470401 * x + number (a ∷ b ∷ c ∷ d ∷ [])
+    last = omega arith
+
+-- eight symbols by two numbers of four
+eight-symbols : (x a b c d e f g h : ℕ) →
+    (1621696888 * x + (67503110 * number (a ∷ b ∷ c ∷ d ∷ []) + number (e ∷ f ∷ g ∷ h ∷ []))) % MODULUS
+    ≡ fold check_symbol x (a ∷ b ∷ c ∷ d ∷ e ∷ f ∷ g ∷ h ∷ [])
+eight-symbols x a b c d e f g h = by (number (a ∷ b ∷ c ∷ d ∷ [])) (number (e ∷ f ∷ g ∷ h ∷ [])) refl refl
+  where
+    by : (high low : ℕ) → high ≡ number (a ∷ b ∷ c ∷ d ∷ []) → low ≡ number (e ∷ f ∷ g ∷ h ∷ []) →
+        (1621696888 * x + (67503110 * high + low)) % MODULUS ≡ fold check_symbol x (a ∷ b ∷ c ∷ d ∷ e ∷ f ∷ g ∷ h ∷ [])
+    by high low p q =
+        sym (add-mul-mod_self_left (1621696888 * x + (67503110 * high + low)) MODULUS (4431034443 * x + high))
+        ∙ ap (λ (n : ℕ). n % MODULUS) same
+        ∙ sym (same-left 4362470401 (4362470401 * x + high) low)
+        ∙ ap (λ (n : ℕ). (4362470401 * ((4362470401 * x + n) % MODULUS) + low) % MODULUS) p
+        ∙ ap (λ (n : ℕ). (4362470401 * n + low) % MODULUS) (sym (four-symbols x a b c d))
+        ∙ ap (λ (n : ℕ). (4362470401 * fold check_symbol x (a ∷ b ∷ c ∷ d ∷ []) + n) % MODULUS) q
+        ∙ sym (four-symbols (fold check_symbol x (a ∷ b ∷ c ∷ d ∷ [])) e f g h)
+      where
+        same : 1621696888 * x + (67503110 * high + low) + MODULUS * (4431034443 * x + high) ≡ 4362470401 * (4362470401 * x + high) + low
+        same = omega arith
+
+-- what holds of each four items holds of a list of four
+by-four : (xs : List ℕ) → length xs ≡ 4 → (P : List ℕ → Type 0) → ((a b c d : ℕ) → P (a ∷ b ∷ c ∷ d ∷ [])) → P xs
+by-four [] e P all = absurd (omega arith)
+by-four (_ ∷ []) e P all = absurd (omega arith)
+by-four (_ ∷ _ ∷ []) e P all = absurd (omega arith)
+by-four (_ ∷ _ ∷ _ ∷ []) e P all = absurd (omega arith)
+by-four (a ∷ b ∷ c ∷ d ∷ []) e P all = all a b c d
+by-four (_ ∷ _ ∷ _ ∷ _ ∷ _ ∷ _) e P all = absurd (omega arith)
+
+-- The check number after eight bytes, by the numbers of the first four and of the last four.
+pub after_eight : (check x high' low' : ℕ) (high low : List ℕ) → x ≡ check → high' ≡ number high → low' ≡ number low → length high ≡ 4 → length low ≡ 4 →
+    (1621696888 * x + (67503110 * high' + low')) % MODULUS ≡ fold check_symbol check (high ++ low)
+after_eight check x high' low' high low d e f p q =
+    ap (λ (n : ℕ). (1621696888 * n + (67503110 * high' + low')) % MODULUS) d
+    ∙ ap (λ (n : ℕ). (1621696888 * check + (67503110 * n + low')) % MODULUS) e
+    ∙ ap (λ (n : ℕ). (1621696888 * check + (67503110 * number high + n)) % MODULUS) f
+    ∙ by-four high p (λ xs. (1621696888 * check + (67503110 * number xs + number low)) % MODULUS ≡ fold check_symbol check (xs ++ low))
+    (λ a b c d. by-four low q (λ ys. (1621696888 * check + (67503110 * number (a ∷ b ∷ c ∷ d ∷ []) + number ys)) % MODULUS ≡ fold check_symbol check (a ∷ b ∷ c ∷ d ∷ ys))
+    (eight-symbols check a b c d))
 
 -- ---- what follows tells two check numbers apart
 

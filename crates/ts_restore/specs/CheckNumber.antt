@@ -20,3 +20,7 @@ check_word check word = check_symbol (fold check_symbol check word) WORD_END
 -- the check number of a list of words
 abbrev pub check_number : List (List ℕ) → ℕ
 check_number words = fold check_word 0 words
+
+-- bytes as a number to the base of 257, with one added to each
+abbrev pub number : List ℕ → ℕ
+number bytes = fold (λ n byte. 257 * n + byte + 1) 0 bytes
