@@ -14,6 +14,7 @@ ghost use Rattle.ts_group.specs.Labels.{member_with};
 use crate::group_texts::group_key;
 use crate::labels::{GroupLabels, LabelsShown};
 use crate::one_group::Group;
+use crate::options::GroupOptions;
 use crate::rows::GroupRows;
 use std::alloc::{AllocError, Global};
 use std::collections::BTreeMap;
@@ -39,9 +40,15 @@ pub fn group(
         (spec.groups (group_of by.now) (show_of show.now) count reverse (map labelled_of members.now)))) }
 {
     let groups = by_value(alloc, members, &by.label)?;
+    let options = GroupOptions {
+        by,
+        show,
+        count,
+        reverse,
+    };
     let mut shown = Vec::with_capacity(alloc, groups.len())?;
     for (value, group) in groups.iter() {
-        shown.push_reserved(reply_to(alloc, group, by, value, show, count, reverse)?);
+        shown.push_reserved(reply_to(alloc, group, value, &options)?);
     }
     Ok(array(shown))
 }
@@ -57,17 +64,16 @@ fn array(items: Vec<Reply>) -> Reply
 fn reply_to<'a>(
     alloc: Global,
     group: &'a Group,
-    by: &'a GroupBy,
     value: &'a Word,
-    show: &'a Show,
-    count: Option<u64>,
-    reverse: bool,
+    options: &GroupOptions<'a>,
 ) -> Result<Reply, AllocError>
     ensures { (ms : List Labelled) → group.now ≡ grouped ms → IfOk result (λ reply. reply_of reply
-        ≡ replies.member_reply (spec.group (group_of by.now) (show_of show.now) count reverse value.now ms)) }
+        ≡ replies.member_reply
+        (spec.group (group_of options.now.by.now) (show_of options.now.show.now) options.now.count
+        options.now.reverse value.now ms)) }
 {
-    let (labels, rows) = group.reply_parts(by, value, count, reverse);
-    group_reply(alloc, &labels, show, rows)
+    let (labels, rows) = group.reply_parts(value, options);
+    group_reply(alloc, &labels, options.show, rows)
 }
 
 // `[label=value, labels, rows]`.

@@ -11,9 +11,9 @@ ghost use Rattle.ts_spec.specs.Replies as spec;
 
 use crate::labels::{GroupLabels, LabelsShown};
 use crate::one_group::Group;
+use crate::options::GroupOptions;
 use crate::rows::GroupRows;
 use std::alloc::{AllocError, Global};
-use ts_command::GroupBy;
 use ts_labels::Show;
 use ts_multi::encode_head;
 use ts_resp::{Out, Word, begin_array, reserve_items, write_pair};
@@ -22,19 +22,18 @@ use ts_resp::{Out, Word, begin_array, reserve_items, write_pair};
 pub fn encode_group_of<'a>(
     alloc: Global,
     group: &'a Group,
-    by: &'a GroupBy,
     value: &'a Word,
-    show: &'a Show,
-    count: Option<u64>,
-    reverse: bool,
+    options: &GroupOptions<'a>,
     out: &mut Out,
 ) -> Result<(), AllocError>
-    ensures ok { (ms : List Labelled) → group.now ≡ grouped ms → OnOk result (out.new.bytes ≡ out.old.bytes
-        ++ text (spec.member_reply (groups.group (group_of by.now) (show_of show.now) count reverse value.now ms))) }
+    ensures ok { (ms : List Labelled) → group.now ≡ grouped ms → OnOk result (out.new.bytes
+        ≡ out.old.bytes ++ text (spec.member_reply
+        (groups.group (group_of options.now.by.now) (show_of options.now.show.now) options.now.count
+        options.now.reverse value.now ms))) }
     ensures room { length out.old.bytes + out.old.spare ≤ length out.new.bytes + out.new.spare }
 {
-    let (labels, rows) = group.reply_parts(by, value, count, reverse);
-    encode_group(alloc, &labels, show, rows, out)
+    let (labels, rows) = group.reply_parts(value, options);
+    encode_group(alloc, &labels, options.show, rows, out)
 }
 
 /// Writes a group of the reply to TS.MRANGE or TS.MREVRANGE: an array of `label=value`, its requested labels and its

@@ -11,11 +11,11 @@ ghost use Rattle.ts_group.specs.Labels.{member_with};
 ghost use Rattle.ts_group.specs.Sources.{joined, sources_text};
 
 use crate::labels::GroupLabels;
+use crate::options::GroupOptions;
 use crate::reduction::Reduction;
 use crate::rows::GroupRows;
 use std::alloc::{AllocError, Global};
 use std::marker::Model;
-use ts_command::GroupBy;
 use ts_labels::Show;
 use ts_multi::Member;
 use ts_range::{Row, RowSink};
@@ -60,21 +60,24 @@ impl Group {
     // The labels and rows that a reply shows for this group, where its series have this value of the label.
     pub(crate) fn reply_parts<'a>(
         &'a self,
-        by: &'a GroupBy,
         value: &'a Word,
-        count: Option<u64>,
-        reverse: bool,
+        options: &GroupOptions<'a>,
     ) -> (GroupLabels<'a>, GroupRows<'a>)
         ensures { (show : Show) (ms : List Labelled) → self.now ≡ grouped ms
-            → member_with show result.0 result.1 ≡ group (group_of by.now) (show_of show) count reverse value.now ms }
+            → member_with show result.0 result.1
+            ≡ group (group_of options.now.by.now) (show_of show) options.now.count options.now.reverse value.now ms }
     {
+        let by = options.by;
         let labels = GroupLabels {
             label: by.label.bytes(),
             value: value.bytes(),
             reducer: by.reducer,
             sources: self.sources.bytes(),
         };
-        (labels, self.reduction.rows(by.reducer, count, reverse))
+        let rows = self
+            .reduction
+            .rows(by.reducer, options.count, options.reverse);
+        (labels, rows)
     }
 }
 

@@ -16,7 +16,7 @@ use crate::multi_reply::MultiReply;
 use std::alloc::AllocError;
 use std::sync::ledger::Ledger;
 use ts_db::{Db, Id};
-use ts_group::{Group, encode_group_of};
+use ts_group::{Group, GroupOptions, encode_group_of};
 use ts_range::RangeFault;
 use ts_resp::{Out, Word};
 use ts_sample::Steps;
@@ -110,16 +110,13 @@ fn add_group<L: Ledger>(
     if lost {
         return Ok(true);
     }
-    Ok(is_lost(encode_group_of(
-        db.alloc(),
-        &group,
-        &group_query.by,
-        value,
-        &group_query.show,
-        group_query.count,
-        group_query.query.reverse,
-        out,
-    )))
+    let options = GroupOptions {
+        by: &group_query.by,
+        show: &group_query.show,
+        count: group_query.count,
+        reverse: group_query.query.reverse,
+    };
+    Ok(is_lost(encode_group_of(db.alloc(), &group, value, &options, out)))
 }
 
 // Whether memory ran out.

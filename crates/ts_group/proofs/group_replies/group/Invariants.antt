@@ -9,6 +9,6 @@ use Rattle.ts_group.proofs.group_replies.group.Given as goal
 -- the replies so far and those of the groups that are left are all of them, and there is room
 abbrev pub invariant-loop-value : goal.invariant-loop-value
 invariant-loop-value l = record {
-  so_far : AreLeft (group_of l.by) (show_of l.show) l.count l.reverse (map labelled_of l.members) l.value-iterator (map reply_of l.shown.items);
+  so_far : AreLeft (group_of l.by) (show_of l.show) l.fn.count l.reverse (map labelled_of l.members) l.value-iterator (map reply_of l.shown.items);
   room : vec_len l.shown + length l.value-iterator ≤ vec_capacity l.shown;
 }
