@@ -18,7 +18,9 @@ use crate::redis_commands::{count_keys, drop_keys, write_pong, write_word};
 use std::sync::ledger::Ledger;
 use ts_command::Command;
 use ts_db::{Db, Hints};
-use ts_questions::{MemberContent, write_get, write_members, write_range, write_ranges};
+use ts_questions::{
+    MemberContent, MemberQuery, write_get, write_members, write_range, write_ranges,
+};
 use ts_resp::{Out, put};
 use ts_sample::Steps;
 
@@ -99,7 +101,14 @@ pub(crate) fn execute_with_hints<L: Ledger>(
             filters,
             query,
             group,
-        } => write_ranges(db, &filters, latest, show, query, group, out, steps),
+        } => {
+            let asked = MemberQuery {
+                latest,
+                show,
+                query,
+            };
+            write_ranges(db, &filters, asked, group, out, steps);
+        }
         Command::Get { key, latest } => write_get(db, &key, latest, out, steps),
         Command::MGet {
             latest,

@@ -59,9 +59,9 @@ kept-told limits m (wanted.Last latest show) ks before after empty added =
     text-added (map (λ k. last_member_reply (stored_last_member m latest (show_of show) k)) ks) _ before after
     (each-replied (λ k. last_member_reply (stored_last_member m latest (show_of show) k)) ks) empty added
     ∙ ap (λ (l : List Reply). text (array l)) (sym (map-map last_member_reply (stored_last_member m latest (show_of show)) ks))
-kept-told limits m (wanted.Rows latest show query filters) ks before after empty added =
-    go (stored_members_of limits m latest (show_of show) (query_of query) ks)
-    (subst (λ (p : Option (List Reply)). AreAdded p before after) (rows-replied limits m latest (show_of show) (query_of query) ks) added)
+kept-told limits m (wanted.Rows asked filters) ks before after empty added =
+    go (stored_members_of limits m asked.latest (show_of asked.show) (query_of asked.query) ks)
+    (subst (λ (p : Option (List Reply)). AreAdded p before after) (rows-replied limits m asked.latest (show_of asked.show) (query_of asked.query) ks) added)
   where
     go : (o : Option (List Member)) → AreAdded (option_map (map member_reply) o) before after → after ≡ text (reply_to (members_response o))
     go None is = absurd is
@@ -71,8 +71,8 @@ kept-told limits m (wanted.Rows latest show query filters) ks before after empty
 kept-none : (limits : Limits) (m : StoredKeys) (w : MemberContent) (ks : List Key) → each_reply (reply_at limits m w) ks ≡ None → stored_many limits m w ks ≡ Refused EmptyRows
 kept-none limits m wanted.Key ks none = absurd (cc (each-replied (λ k. Bulk k) ks, none))
 kept-none limits m (wanted.Last latest show) ks none = absurd (cc (each-replied (λ k. last_member_reply (stored_last_member m latest (show_of show) k)) ks, none))
-kept-none limits m (wanted.Rows latest show query filters) ks none =
-    go (stored_members_of limits m latest (show_of show) (query_of query) ks) (sym (rows-replied limits m latest (show_of show) (query_of query) ks) ∙ none)
+kept-none limits m (wanted.Rows asked filters) ks none =
+    go (stored_members_of limits m asked.latest (show_of asked.show) (query_of asked.query) ks) (sym (rows-replied limits m asked.latest (show_of asked.show) (query_of asked.query) ks) ∙ none)
   where
     go : (o : Option (List Member)) → option_map (map member_reply) o ≡ None → members_response o ≡ Refused EmptyRows
     go None is = refl
@@ -88,9 +88,9 @@ kept-stands db_view w fs from stands =
     go : (w : MemberContent) → stored_many db_view.limits (kept from.state) w (selection from.state fs) ≡ many_response from w fs
     go wanted.Key = refl
     go (wanted.Last latest show) = ap (λ (ms : List Member). LastRows ms) (last_members-kept from.state latest (show_of show) (selection from.state fs))
-    go (wanted.Rows latest show query filters) =
-        ranges-kept db_view.limits from.state latest (show_of show) (query_of query) None (selection from.state fs)
-        ∙ ap (λ (l : Limits). members_response (members_of l from.state latest (show_of show) (query_of query) (selection from.state fs))) (sym stands.limits)
+    go (wanted.Rows asked filters) =
+        ranges-kept db_view.limits from.state asked.latest (show_of asked.show) (query_of asked.query) None (selection from.state fs)
+        ∙ ap (λ (l : Limits). members_response (members_of l from.state asked.latest (show_of asked.show) (query_of asked.query) (selection from.state fs))) (sym stands.limits)
 
 many-refused : (db_view : DbView) (w : MemberContent) (fs : List Filter) (after : List ℕ) → each_reply (reply_at db_view.limits db_view.keys w) (stored_selection db_view.keys fs) ≡ None
     → after ≡ text (refusal_reply EmptyRows) → (from : DbState) → Represents db_view from → IsReplyText (many_response from w fs) after
@@ -101,9 +101,9 @@ many-refused db_view w fs after none is from stands =
 kept-yields : (limits : Limits) (m : StoredKeys) (w : MemberContent) (ks : List Key) → is_none (each_reply (reply_at limits m w) ks) ≡ false → AllowsOutOfMemory (stored_many limits m w ks)
 kept-yields limits m wanted.Key ks told = tt
 kept-yields limits m (wanted.Last latest show) ks told = tt
-kept-yields limits m (wanted.Rows latest show query filters) ks told =
-    go (stored_members_of limits m latest (show_of show) (query_of query) ks)
-    (subst (λ (p : Option (List Reply)). is_none p ≡ false) (rows-replied limits m latest (show_of show) (query_of query) ks) told)
+kept-yields limits m (wanted.Rows asked filters) ks told =
+    go (stored_members_of limits m asked.latest (show_of asked.show) (query_of asked.query) ks)
+    (subst (λ (p : Option (List Reply)). is_none p ≡ false) (rows-replied limits m asked.latest (show_of asked.show) (query_of asked.query) ks) told)
   where
     go : (o : Option (List Member)) → is_none (option_map (map member_reply) o) ≡ false → AllowsOutOfMemory (members_response o)
     go None is = absurd (cc is)

@@ -22,7 +22,7 @@ members_steps db_view filters from to = selection_steps db_view filters + sum_by
 abbrev pub content_steps : DbView → MemberContent → Key → ℕ
 content_steps db_view wanted.Key key = 0
 content_steps db_view (wanted.Last latest show) key = 0
-content_steps db_view (wanted.Rows latest show query filters) key = series_query_steps db_view key query.from query.to
+content_steps db_view (wanted.Rows asked filters) key = series_query_steps db_view key asked.query.from asked.query.to
 
 -- to check whether a key matches filters and then has too many rows, which takes at most `most` steps
 abbrev pub tried_steps : DbView → List Filter → (most : Key → ℕ) → Key → ℕ

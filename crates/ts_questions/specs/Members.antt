@@ -42,7 +42,7 @@ rows_at limits m latest show q k = option_map (λ rows. member_reply (stored_mem
 abbrev pub reply_at : Limits → StoredKeys → MemberContent → Key → Option Reply
 reply_at limits m wanted.Key k = Some (Bulk k)
 reply_at limits m (wanted.Last latest show) k = Some (last_member_reply (stored_last_member m latest (show_of show) k))
-reply_at limits m (wanted.Rows latest show query filters) k = rows_at limits m latest (show_of show) (query_of query) k
+reply_at limits m (wanted.Rows asked filters) k = rows_at limits m asked.latest (show_of asked.show) (query_of asked.query) k
 
 -- an element in front of the others, or nothing if either is missing
 abbrev pub reply_then : {X : Type 0} → Option X → Option (List X) → Option (List X)
@@ -87,16 +87,17 @@ is_refused_at db_view fs is_over_limit k = all_hold fs (stored_labels_at (get k 
 abbrev pub AreAsAsked : MemberContent → Type 0
 AreAsAsked wanted.Key = ⊤
 AreAsAsked (wanted.Last latest show) = ⊤
-AreAsAsked (wanted.Rows latest show query filters) = ForSome filters (λ f. (p : Point) → passes f p ≡ passes_filters (query_of query) p)
+AreAsAsked (wanted.Rows asked filters) = ForSome filters (λ f. (p : Point) → passes f p ≡ passes_filters (query_of asked.query) p)
 
 -- the response over these keys, from the stored data
 abbrev pub stored_many : Limits → StoredKeys → MemberContent → List Key → Response
 stored_many limits m wanted.Key ks = Keys ks
 stored_many limits m (wanted.Last latest show) ks = LastRows (map (stored_last_member m latest (show_of show)) ks)
-stored_many limits m (wanted.Rows latest show query filters) ks = members_response (stored_members_of limits m latest (show_of show) (query_of query) ks)
+stored_many limits m (wanted.Rows asked filters) ks = members_response (stored_members_of limits m asked.latest (show_of asked.show) (query_of asked.query) ks)
 
 -- the response over the series that match the filters
 abbrev pub many_response : DbState → MemberContent → List Filter → Response
 many_response from wanted.Key fs = Keys (selection from.state fs)
 many_response from (wanted.Last latest show) fs = LastRows (map (last_member from.state latest (show_of show)) (selection from.state fs))
-many_response from (wanted.Rows latest show query filters) fs = members_response (members_of from.limits from.state latest (show_of show) (query_of query) (selection from.state fs))
+many_response from (wanted.Rows asked filters) fs =
+    members_response (members_of from.limits from.state asked.latest (show_of asked.show) (query_of asked.query) (selection from.state fs))

@@ -9,6 +9,7 @@ ghost use Rattle.ts_questions.specs.GroupQuery.{stored_groups};
 
 use crate::by_value::known_ids;
 use crate::grouped::add_groups;
+use crate::members::MemberQuery;
 use crate::multi_reply::MultiReply;
 use crate::row_plans::has_too_many_rows;
 use std::sync::ledger::Ledger;
@@ -34,15 +35,20 @@ pub(crate) struct GroupQuery {
 }
 
 impl GroupQuery {
-    pub(crate) fn new(latest: bool, show: Show, query: Query, by: GroupBy) -> GroupQuery
+    pub(crate) fn new(asked: MemberQuery, by: GroupBy) -> GroupQuery
         ensures group_query { IsGroupQuery result }
-        ensures asks { counted result ≡ query_of query }
-        ensures from { result.query.from ≡ query.from }
-        ensures to { result.query.to ≡ query.to }
-        ensures latest { result.latest ≡ latest }
-        ensures show { result.show ≡ show }
+        ensures asks { counted result ≡ query_of asked.query }
+        ensures from { result.query.from ≡ asked.query.from }
+        ensures to { result.query.to ≡ asked.query.to }
+        ensures latest { result.latest ≡ asked.latest }
+        ensures show { result.show ≡ asked.show }
         ensures by { result.by ≡ by }
     {
+        let MemberQuery {
+            latest,
+            show,
+            query,
+        } = asked;
         let filters = Filters::of(&query).ok();
         let count = query.count;
         let mut all_rows = query;

@@ -20,5 +20,5 @@ mod series_query;
 mod walked;
 
 pub use faults::{refusal_reply, write_or_out_of_memory, write_out_of_memory};
-pub use members::{MemberContent, write_members};
+pub use members::{MemberContent, MemberQuery, write_members};
 pub use query_replies::{write_get, write_range, write_ranges};

@@ -20,7 +20,7 @@ ghost use Rattle.ts_questions.specs.Bounds.{series_query_steps, content_steps};
 ghost use Rattle.ts_questions.specs.Members.{reply_at, rows_at, AreAsAsked, IsAdded, in_memory, is_too_many};
 
 use crate::emit_planned_rows::{emit_planned_rows, reversed_rows};
-use crate::members::MemberContent;
+use crate::members::{MemberContent, MemberQuery};
 use crate::row_plans::{RowPlan, has_too_many_rows, row_plan};
 use crate::series_query::SeriesQuery;
 use std::alloc::AllocError;
@@ -28,7 +28,7 @@ use std::sync::ledger::Ledger;
 use ts_db::{Db, Id};
 use ts_labels::Show;
 use ts_multi::{encode_last_member, encode_member};
-use ts_range::{Filters, Query, RangeFault, Row, RowList};
+use ts_range::{Filters, RangeFault, Row, RowList};
 use ts_resp::{Out, encode_bulk};
 use ts_sample::{Cell, Sample, Steps};
 
@@ -55,12 +55,7 @@ pub(crate) fn add_member<L: Ledger>(
         MemberContent::Last { latest, show } => in_memory(add_last(
             db, id, *latest, show, out, steps,
         )),
-        MemberContent::Rows {
-            latest,
-            show,
-            query,
-            filters,
-        } => add_rows(db, id, *latest, show, query, filters, out, steps),
+        MemberContent::Rows { asked, filters } => add_rows(db, id, asked, filters, out, steps),
     }
 }
 
@@ -109,31 +104,30 @@ fn row_of(sample: Option<Sample>) -> Option<Row>
 fn add_rows<L: Ledger>(
     db: &Db,
     id: Id,
-    latest: bool,
-    show: &Show,
-    query: &Query,
+    asked: &MemberQuery,
     filters: &Option<Filters>,
     out: &mut Out,
     steps: &mut Steps<L>,
 ) -> Result<(), RangeFault>
     requires live { IsLive db.now.ids id }
-    requires lets { ForSome filters.now (λ f. (p : Point) → passes f p ≡ passes_filters (query_of query.now) p) }
+    requires lets { ForSome filters.now (λ f. (p : Point) → passes f p ≡ passes_filters (query_of asked.now.query) p) }
     ensures added { OnOk result ((key : Key) → get key db.now.ids ≡ Some id
-        → IsAdded text (rows_at db.now.limits db.now.keys latest (show_of show.now) (query_of query.now) key)
+        → IsAdded text
+        (rows_at db.now.limits db.now.keys asked.now.latest (show_of asked.now.show) (query_of asked.now.query) key)
         out.old.bytes out.new.bytes) }
     ensures fault { IfErr result (λ fault. (key : Key) → get key db.now.ids ≡ Some id
-        → is_too_many fault
-        ≡ is_none (rows_at db.now.limits db.now.keys latest (show_of show.now) (query_of query.now) key)) }
+        → is_too_many fault ≡ is_none
+        (rows_at db.now.limits db.now.keys asked.now.latest (show_of asked.now.show) (query_of asked.now.query) key)) }
     ensures room { length out.old.bytes + out.old.spare ≤ length out.new.bytes + out.new.spare }
     ensures steps { (key : Key) → get key db.now.ids ≡ Some id
-        → steps.new ≤ steps.old + series_query_steps db.now key query.now.from query.now.to }
+        → steps.new ≤ steps.old + series_query_steps db.now key asked.now.query.from asked.now.query.to }
 {
     let Some(filters) = filters else {
-        return Err(lost(has_too_many_rows(db, id, latest, query, steps)));
+        return Err(lost(has_too_many_rows(db, id, asked.latest, &asked.query, steps)));
     };
-    let series_query = SeriesQuery::new(db, id, latest, query, filters);
+    let series_query = SeriesQuery::new(db, id, asked.latest, &asked.query, filters);
     let rows = rows_of(&series_query, steps)?;
-    in_memory(encode_member(db.key_of(id), db.labels_of(id), show, &rows, out))
+    in_memory(encode_member(db.key_of(id), db.labels_of(id), &asked.show, &rows, out))
 }
 
 /// The error for rows that can't be returned: too many rows, or out of memory.

@@ -23,6 +23,15 @@ use ts_range::{Filters, Query, RangeFault};
 use ts_resp::{Out, encode_count};
 use ts_sample::Steps;
 
+/// A query over each of many series, and the labels that the reply shows of each.
+#[derive(Drop)]
+pub struct MemberQuery {
+    /// LATEST: whether a destination also shows its bucket that is still open.
+    pub latest: bool,
+    pub show: Show,
+    pub query: Query,
+}
+
 /// What a reply over many series shows of each.
 #[derive(Drop)]
 pub enum MemberContent {
@@ -35,9 +44,7 @@ pub enum MemberContent {
     },
     /// Its key, its requested labels and the rows of a query.
     Rows {
-        latest: bool,
-        show: Show,
-        query: Query,
+        asked: MemberQuery,
         /// The prepared filters of the query, or `None` if there was no memory for them.
         filters: Option<Filters>,
     },
@@ -86,8 +93,12 @@ fn is_refused<L: Ledger>(db: &Db, id: Id, wanted: &MemberContent, steps: &mut St
     match wanted {
         MemberContent::Key => false,
         MemberContent::Last { .. } => false,
-        MemberContent::Rows { latest, query, .. } => has_too_many_rows(
-            db, id, *latest, query, steps,
+        MemberContent::Rows { asked, .. } => has_too_many_rows(
+            db,
+            id,
+            asked.latest,
+            &asked.query,
+            steps,
         ),
     }
 }

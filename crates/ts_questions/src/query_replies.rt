@@ -23,7 +23,7 @@ ghost use Rattle.ts_questions.specs.Bounds.{series_query_steps, members_steps};
 use crate::emit_planned_rows::emit_planned_rows;
 use crate::faults::{refusal_reply, too_many_rows, write_out_of_memory, write_row_error};
 use crate::group_query::GroupQuery;
-use crate::members::{MemberContent, write_members};
+use crate::members::{MemberContent, MemberQuery, write_members};
 use crate::multi_reply::write_many;
 use crate::row_plans::{RowPlan, has_too_many_rows, row_plan};
 use crate::row_texts::{FIRST_ROOM, RowTexts};
@@ -31,7 +31,7 @@ use crate::series_query::SeriesQuery;
 use std::sync::ledger::Ledger;
 use ts_command::GroupBy;
 use ts_db::{Db, DbFault, Id};
-use ts_labels::{Filter, Show};
+use ts_labels::Filter;
 use ts_range::{Filters, Query};
 use ts_resp::{Out, Word, begin_array, put, write_pair};
 use ts_sample::{Cell, Sample, Steps};
@@ -166,9 +166,7 @@ fn write_last_row(last: Option<Sample>, out: &mut Out)
 pub fn write_ranges<L: Ledger>(
     db: &Db,
     filters: &[Filter],
-    latest: bool,
-    show: Show,
-    query: Query,
+    asked: MemberQuery,
     group: Option<GroupBy>,
     out: &mut Out,
     steps: &mut Steps<L>,
@@ -177,23 +175,21 @@ pub fn write_ranges<L: Ledger>(
     requires room { 128 ≤ out.old.spare }
     ensures reply { (from : DbState) → Represents db.now from
         → IsReplyText
-        (ranges_response from.limits from.state latest (show_of show) (query_of query) (option_map group_of group)
-        (selection from.state filters.now)) out.new.bytes }
+        (ranges_response from.limits from.state asked.latest (show_of asked.show) (query_of asked.query)
+        (option_map group_of group) (selection from.state filters.now)) out.new.bytes }
     ensures room { 128 ≤ length out.new.bytes + out.new.spare }
-    ensures steps { steps.new ≤ steps.old + members_steps db.now filters.now query.from query.to }
+    ensures steps { steps.new ≤ steps.old + members_steps db.now filters.now asked.query.from asked.query.to }
 {
     match group {
         None => {
             let wanted = MemberContent::Rows {
-                latest,
-                show,
-                filters: Filters::of(&query).ok(),
-                query,
+                filters: Filters::of(&asked.query).ok(),
+                asked,
             };
             write_members(db, filters, &wanted, out, steps);
         }
         Some(by) => {
-            let group_query = GroupQuery::new(latest, show, query, by);
+            let group_query = GroupQuery::new(asked, by);
             write_many(db, filters, &group_query, out, steps);
         }
     }

@@ -9,7 +9,7 @@ returns-in-Rows-clause-refused g c =
     let db_view = c.args.db.now in
     rw c.in-Rows.is (λ key at.
     c.has_too_many_rows.ensures.many key at
-    ∙ rows-refused db_view.limits db_view.keys c.in-Rows.latest (show_of c.in-Rows.show) (query_of c.in-Rows.query) key)
+    ∙ rows-refused db_view.limits db_view.keys c.in-Rows.asked.latest (show_of c.in-Rows.asked.show) (query_of c.in-Rows.asked.query) key)
 
 pub returns-in-Rows-clause-steps : goal.returns-in-Rows-clause-steps
 returns-in-Rows-clause-steps g c = rw c.in-Rows.is (λ key at. omega (arith, c.has_too_many_rows.ensures.steps key at))

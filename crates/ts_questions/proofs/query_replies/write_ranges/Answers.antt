@@ -31,6 +31,6 @@ returns-in-Some-clause-steps g c =
     let keys = stored_selection db_view.keys c.args.filters.now in
     let asked = c.new-group_query.result in
     fewer-steps c.args.steps.now c.write_many.new.steps (selection_steps db_view c.args.filters.now) (sum_by (group_steps asked db_view) keys)
-    (sum_by (λ key. series_query_steps db_view key c.args.query.from c.args.query.to) keys) c.write_many.ensures.steps
-    (subst (λ (from : ℕ). sum_by (group_steps asked db_view) keys ≤ sum_by (λ key. series_query_steps db_view key from c.args.query.to) keys) c.new-group_query.ensures.from
+    (sum_by (λ key. series_query_steps db_view key c.args.asked.query.from c.args.asked.query.to) keys) c.write_many.ensures.steps
+    (subst (λ (from : ℕ). sum_by (group_steps asked db_view) keys ≤ sum_by (λ key. series_query_steps db_view key from c.args.asked.query.to) keys) c.new-group_query.ensures.from
     (subst (λ (to : ℕ). sum_by (group_steps asked db_view) keys ≤ sum_by (λ key. series_query_steps db_view key asked.query.from to) keys) c.new-group_query.ensures.to (groups-few asked db_view keys)))
