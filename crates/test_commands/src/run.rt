@@ -15,6 +15,14 @@ pub(crate) struct Talking<'a> {
     pub(crate) exchange: Exchange,
 }
 
+// The devices of a run: its input and output, and the connections that come to its listener.
+#[derive(Drop)]
+struct Devices<S> {
+    input: S,
+    out: MemSink,
+    connections: Vec<Ends<MemSource, MemSink>>,
+}
+
 // Whether a run with this read size writes exactly what is expected to the output and each connection, and ends as
 // expected.
 pub(crate) fn is_answered(
@@ -27,10 +35,12 @@ pub(crate) fn is_answered(
 ) -> Result<bool, AllocError> {
     let takes = setting.takes();
     let ends = own.stream.ends(&own.exchange, piece, takes)?;
-    let others = ends_of(alloc, links, piece, takes)?;
-    is_answered_over(
-        alloc, setting, ends.input, ends.out, others, own, links, end,
-    )
+    let devices = Devices {
+        input: ends.input,
+        out: ends.out,
+        connections: ends_of(alloc, links, piece, takes)?,
+    };
+    is_answered_over(alloc, setting, devices, own, links, end)
 }
 
 // The same, with the input in two pieces. The first has this many bytes.
@@ -46,31 +56,36 @@ pub(crate) fn is_answered_in_two(
         .exchange
         .input
         .split_at(first.min(own.exchange.input.len()));
-    let input = StdSource::new(early.chain(late));
-    let out = own.stream.ends(&own.exchange, 1, takes)?.out;
-    is_answered_over(alloc, setting, input, out, Vec::new(alloc), own, &[], end)
+    let devices = Devices {
+        input: StdSource::new(early.chain(late)),
+        out: own.stream.ends(&own.exchange, 1, takes)?.out,
+        connections: Vec::new(alloc),
+    };
+    is_answered_over(alloc, setting, devices, own, &[], end)
 }
 
-// Whether a run over this input writes exactly what is expected to the output and each connection, and ends as
+// Whether a run over these devices writes exactly what is expected to the output and each connection, and ends as
 // expected.
 fn is_answered_over<S: Source + Drop>(
     alloc: Global,
     setting: &Setting,
-    mut input: S,
-    mut out: MemSink,
-    others: Vec<Ends<MemSource, MemSink>>,
+    devices: Devices<S>,
     own: &Talking,
     links: &[Talking],
     end: &End,
 ) -> Result<bool, AllocError> {
+    let Devices {
+        mut input,
+        mut out,
+        mut connections,
+    } = devices;
     let mut err = MemSink::new(alloc, setting.takes().max(1), Vec::new(alloc));
     let mut clock = MemClock::new(Vec::from_slice(alloc, &setting.readings)?);
     let failing = Vec::from_slice(alloc, &setting.failing_calls)?;
-    let mut coming = others;
     if setting.next_call.is_made() {
-        coming.push(idle_connection(alloc))?;
+        connections.push(idle_connection(alloc))?;
     }
-    let mut net = MemListener::new(alloc, coming, failing)?;
+    let mut net = MemListener::new(alloc, connections, failing)?;
     let mut log = setting.journal.log()?;
     let mut hub = MemHub::new(alloc, Vec::new(alloc), Vec::new(alloc));
     let status = top(
@@ -120,8 +135,8 @@ pub(crate) fn comes_to(
         limits.wire,
         setting.budget.max(1),
     );
-    let told = format!(in alloc; "executed {executed}, taken {taken}, {end:?}")?;
-    Ok(ends.out.bytes() == own.exchange.out.as_slice() && told.as_str() == outcome)
+    let got = format!(in alloc; "executed {executed}, taken {taken}, {end:?}")?;
+    Ok(ends.out.bytes() == own.exchange.out.as_slice() && got.as_str() == outcome)
 }
 
 // The two ends of each connection.
