@@ -38,7 +38,7 @@ written-checkpoint held limits old drafted left wire bounded none w is restores 
     (subst (λ (x : WireLimits). All (Fits (journal_limits x)) w.requests) (sym wire) w.fit) in
     record {
       checkpoint = encoded w.requests;
-      told = is ∙ w.added ∙ ap (λ (o : Option (List ℕ)). append_known o (encoded w.requests)) none;
+      content = is ∙ w.added ∙ ap (λ (o : Option (List ℕ)). append_known o (encoded w.requests)) none;
       new = restored.state;
       whole = restored.loads;
       same = restored.same;
@@ -68,7 +68,7 @@ module _ (limits : Limits) (budget : ℕ) (journal : List ℕ) (left : Option (L
   has-fold : HasCheckpoint to left → HasFold limits journal left
   has-fold has = record {
     folded = has.checkpoint;
-    told = has.told;
+    content = has.content;
     is_fold = record {
       old = to.state;
       place = extent.end;

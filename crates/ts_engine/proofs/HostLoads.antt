@@ -120,7 +120,7 @@ module _ (run : HostView) (bounded : IsBounded run.seen.limits.wire) (bytes : Li
   folded-over told has e ends =
       let whole : LoadsTo run.seen.limits has.checkpoint has.new = subst (λ (l : Limits). LoadsTo l has.checkpoint has.new) opened.0.1 has.whole in
       ends-over run bounded bytes left has.new has.checkpoint whole mid.state extent.end opened.0.0 opened.0.2 (inr (whole, sym has.same.kept)) e
-      (subst (λ (w : Snapshot). EndsFrom run w left e) (world-is run.seen.readings told run.seen.limits has.checkpoint (record { limits = mid.limits; state = has.new }) has.told opened.0.1) ends)
+      (subst (λ (w : Snapshot). EndsFrom run w left e) (world-is run.seen.readings told run.seen.limits has.checkpoint (record { limits = mid.limits; state = has.new }) has.content opened.0.1) ends)
 
   -- it could not be folded
   pub unfolded-over : run.same_hub → run.same_output → run.same_clock → (left ≡ between) ⊎ HasCheckpoint mid left → EndsOver run bytes left end.NotFolded
@@ -139,7 +139,7 @@ module _ (run : HostView) (bounded : IsBounded run.seen.limits.wire) (bytes : Li
       left-journal (inl same) = inl (same ∙ opened.1)
       left-journal (inr fold) = inr (record {
         folded = fold.checkpoint;
-        told = fold.told;
+        content = fold.content;
         is_fold = record {
           old = mid.state;
           place = extent.end;

@@ -64,15 +64,15 @@ module _ (limits : Limits) (bounded : IsBounded limits.wire) where
         let done = run-replay_matches limits bounded one.asked loaded from one.to one.text first_within same content loads first in
         let settled : List ℕ = loaded ++ done.more in
         let stored : List ℕ = settled ++ extends.0 in
-        let told : left ≡ Some stored = added-to one.to.content left settled extends.0 done.content extends.1 in
-        let whole : two.to.content ≡ Some (stored ++ within.0) = added-to left two.to.content stored within.0 told within.1 in
+        let is_stored : left ≡ Some stored = added-to one.to.content left settled extends.0 done.content extends.1 in
+        let whole : two.to.content ≡ Some (stored ++ within.0) = added-to left two.to.content stored within.0 is_stored within.1 in
         let long : length settled ≤ length stored = omega (arith, length-append settled extends.0) in
         let longer : length loaded ≤ length stored = omega (arith, long, length-append loaded done.more) in
         let fronts = cut-fronts (one.asked ++ two.asked) loaded from two.to (one.text ++ two.text) (All-append (IsWithin limits.wire) one.asked two.asked first_within second_within)
         same content loads (Runs-append IsJournaled from one.to two.to one.asked two.asked one.text two.text first second) stored within.0 whole longer in
         record {
           stored = stored;
-          told = told;
+          content = is_stored;
           begins = ap (take (length loaded)) (append_assoc loaded done.more extends.0) ∙ take-append_seam loaded (done.more ++ extends.0);
           prefixes_load = fronts-of limits from (whole_run run) (length loaded) stored longer fronts;
           replay_matches = fronts;

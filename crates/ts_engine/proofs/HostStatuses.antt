@@ -21,8 +21,8 @@ use Rattle.ts_engine.proofs.Tops.{given-as}
 -- ---- causes
 
 -- no count rose, and the status tells of no fault
-pub causes-none : (told : Status) (before now : Faults) → told ≢ status.AcceptFault → told ≢ status.WriteFault → told ≢ status.JournalFault → now ≡ before → HasHostCauses told before now
-causes-none told before now no_hub no_line no_journal same = record {
+pub causes-none : (given : Status) (before now : Faults) → given ≢ status.AcceptFault → given ≢ status.WriteFault → given ≢ status.JournalFault → now ≡ before → HasHostCauses given before now
+causes-none given before now no_hub no_line no_journal same = record {
   hub = λ is. absurd (no_hub is);
   lines = λ is. absurd (no_line is);
   journal = λ is. absurd (no_journal is);
@@ -78,9 +78,9 @@ causes-unloaded e hub lines faults faults' rose stays =
 never-rises : Rose 0 0 → ⊥
 never-rises rose = omega (arith, rose)
 
-pub causes-in-memory : (told : Status) (hub hub' lines lines' faults : ℕ) → HasHostCauses told (record { hub = hub; lines = lines; journal = 0 }) (record { hub = hub'; lines = lines'; journal = 0 })
-    → HasHostCauses told (record { hub = hub; lines = lines; journal = faults }) (record { hub = hub'; lines = lines'; journal = faults })
-causes-in-memory told hub hub' lines lines' faults causes = record {
+pub causes-in-memory : (given : Status) (hub hub' lines lines' faults : ℕ) → HasHostCauses given (record { hub = hub; lines = lines; journal = 0 }) (record { hub = hub'; lines = lines'; journal = 0 })
+    → HasHostCauses given (record { hub = hub; lines = lines; journal = faults }) (record { hub = hub'; lines = lines'; journal = faults })
+causes-in-memory given hub hub' lines lines' faults causes = record {
   hub = causes.hub;
   lines = causes.lines;
   journal = λ is. absurd (never-rises (causes.journal is));
@@ -153,6 +153,6 @@ only-journal kept_in e meant given possible unused means same (inl failed) = fau
 only-journal kept_in e meant given possible unused means same (inr broken) = broken-has kept_in e possible (given-as (status_of e) status.JournalBroken meant given (λ is. (cc)) broken means same)
 
 -- a count that is the same before and after did not rise from 0
-pub unused-memory : (told : Status) (before now : Faults) → HasHostCauses told (record { hub = before.hub; lines = before.lines; journal = 0 }) (record { hub = now.hub; lines = now.lines; journal = 0 })
-    → told ≢ status.JournalFault
-unused-memory told before now causes = λ is. never-rises (causes.journal is)
+pub unused-memory : (given : Status) (before now : Faults) → HasHostCauses given (record { hub = before.hub; lines = before.lines; journal = 0 }) (record { hub = now.hub; lines = now.lines; journal = 0 })
+    → given ≢ status.JournalFault
+unused-memory given before now causes = λ is. never-rises (causes.journal is)

@@ -28,7 +28,7 @@ use Rattle.ts_engine.specs.NotJournaled.{NotJournaledTaken}
 use Rattle.ts_engine.specs.Journaled.{JournalRun, exchange_over, GoesOn, EndsAs, Wrote, IsAnswered, HasJournalCauses, status_of, status_piped, status_journaled}
 use Rattle.ts_engine.specs.Opening.{IsOpened, unloaded_status}
 use Rattle.ts_engine.specs.Status as input
-use Rattle.ts_engine.proofs.Journalings.{Told, first-run, told-first, told-torn}
+use Rattle.ts_engine.proofs.Journalings.{HasJournal, first-run, journal-first, journal-torn}
 use Rattle.ts_engine.proofs.Openings.{opened-below, never-unloaded, fault-meant}
 
 -- ---- the content of the journal
@@ -44,8 +44,8 @@ module _ (run : JournalRun) (bounded : IsBounded run.seen.limits.wire) (bytes : 
   goes-on : (failed : Bool) (held : DbState) (writes : Exchange journaled → Type 0) (handled : (exchange : Exchange journaled) → writes exchange → HandledRun)
       (replays : (exchange : Exchange journaled) → writes exchange → List ℕ → Type 0) (written : writes (exchange_over run m place failed held)) (others : List Request)
       → requests run.seen.limits.wire bytes ≡ (handled (exchange_over run m place failed held) written).asked ++ others
-      → Told run.seen.limits (take place run.journal) (replays (exchange_over run m place failed held) written) run.journal_left → GoesOn run bytes failed writes handled replays
-  goes-on failed held writes handled replays written others first told = record {
+      → HasJournal run.seen.limits (take place run.journal) (replays (exchange_over run m place failed held) written) run.journal_left → GoesOn run bytes failed writes handled replays
+  goes-on failed held writes handled replays written others first of_journal = record {
     loaded = m;
     place = place;
     loads = loads;
@@ -53,11 +53,11 @@ module _ (run : JournalRun) (bounded : IsBounded run.seen.limits.wire) (bytes : 
     written = written;
     others = others;
     first = first;
-    journal = told.journal;
-    told = told.told;
-    begins = ap (λ (n : ℕ). take n told.journal) (sym its-size) ∙ told.begins;
-    prefixes_load = told.prefixes_load;
-    replay_matches = λ n past. told.replay_matches n (omega (arith, past, its-size));
+    journal = of_journal.journal;
+    content = of_journal.content;
+    begins = ap (λ (n : ℕ). take n of_journal.journal) (sym its-size) ∙ of_journal.begins;
+    prefixes_load = of_journal.prefixes_load;
+    replay_matches = λ n past. of_journal.replay_matches n (omega (arith, past, its-size));
   }
 
   -- the output for the input, together with the journal, which was read to its end
@@ -71,7 +71,7 @@ module _ (run : JournalRun) (bounded : IsBounded run.seen.limits.wire) (bytes : 
             (λ exchange written. run_of exchange budget bytes left e written.written)
             (λ exchange written. PrefixReplays run.seen.limits exchange.from (run_of exchange budget bytes left e written.written))
             written first.others first.first
-            (told-first run.seen.limits bounded exchange refl bytes (take place run.journal) refl refl its-loads (run_of exchange budget bytes left e written.written) first),
+            (journal-first run.seen.limits bounded exchange refl bytes (take place run.journal) refl refl its-loads (run_of exchange budget bytes left e written.written) first),
       )
   did-on untouched budget left ended.AppendFault held below written =
       let exchange : Exchange journaled = exchange_over run m place true held in (
@@ -80,7 +80,7 @@ module _ (run : JournalRun) (bounded : IsBounded run.seen.limits.wire) (bytes : 
             (λ exchange written. run_to_fault run.seen.limits exchange bytes written.not_journaled)
             (λ exchange written. ReplaysToFault run.seen.limits exchange bytes written.not_journaled)
             written (written.not_journaled.last ∷ written.not_journaled.others) written.not_journaled.first
-            (told-torn run.seen.limits bounded exchange refl bytes (take place run.journal) refl refl its-loads written.not_journaled),
+            (journal-torn run.seen.limits bounded exchange refl bytes (take place run.journal) refl refl its-loads written.not_journaled),
       )
   did-on untouched budget left (ended.NotLoaded fault) held below written = absurd written
 
@@ -125,9 +125,9 @@ causes-not fault reads writes faults faults' rose stays =
     }
 
 -- fault counters that rose before or after
-pub causes-on : (told : Status) (reads reads' writes writes' faults mid faults' : ℕ) → mid ≡ faults → HasJournalCauses told reads reads' writes writes' mid faults'
-    → HasJournalCauses told reads reads' writes writes' faults faults'
-causes-on told reads reads' writes writes' faults mid faults' same causes = subst (λ (n : ℕ). HasJournalCauses told reads reads' writes writes' n faults') same causes
+pub causes-on : (given : Status) (reads reads' writes writes' faults mid faults' : ℕ) → mid ≡ faults → HasJournalCauses given reads reads' writes writes' mid faults'
+    → HasJournalCauses given reads reads' writes writes' faults faults'
+causes-on given reads reads' writes writes' faults mid faults' same causes = subst (λ (n : ℕ). HasJournalCauses given reads reads' writes writes' n faults') same causes
 
 -- ---- the reported status
 

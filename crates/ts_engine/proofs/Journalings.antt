@@ -97,9 +97,9 @@ module _ (exchange : Exchange journaled) (budget : ℕ) (bytes : List ℕ) (left
 -- ---- the content of the journal, and what its prefixes load to
 
 -- the content, what it begins with, and what its prefixes load to
-pub record Told (limits : Limits) (loaded : List ℕ) (replays : (front : List ℕ) → Type 0) (content : Option (List ℕ)) : Type 0 where
+pub record HasJournal (limits : Limits) (loaded : List ℕ) (replays : (front : List ℕ) → Type 0) (left : Option (List ℕ)) : Type 0 where
   pub journal : List ℕ
-  pub told : content ≡ Some journal
+  pub content : left ≡ Some journal
   pub begins : take (length loaded) journal ≡ loaded
   pub prefixes_load : (n : ℕ) → FrontLoads limits journal n
   pub replay_matches : (n : ℕ) → length loaded ≤ n → replays (take n journal)
@@ -179,20 +179,20 @@ module _ (limits : Limits) (bounded : IsBounded limits.wire) (exchange : Exchang
       first-within limits.wire done others (subst (λ (l : List Request). All (IsWithin limits.wire) l) split
       (subst (λ (w : WireLimits). All (IsWithin w) (requests exchange.limits bytes)) same (input-within exchange.limits bytes)))
 
-  pub told-first : (run : HandledRun) → FirstRun exchange bytes run → Told limits loaded (PrefixReplays limits exchange.from run) exchange.to.content
-  told-first run first =
+  pub journal-first : (run : HandledRun) → FirstRun exchange bytes run → HasJournal limits loaded (PrefixReplays limits exchange.from run) exchange.to.content
+  journal-first run first =
       let done = run-replay_matches limits bounded run.asked loaded exchange.from run.to run.text (asked-within run.asked first.others first.first) its_limits its_content loads first.run in
       record {
         journal = loaded ++ done.more;
-        told = ap (λ (s : Snapshot). s.content) (sym first.ends) ∙ done.content;
+        content = ap (λ (s : Snapshot). s.content) (sym first.ends) ∙ done.content;
         begins = take-append_seam loaded done.more;
         prefixes_load = fronts-load limits (loaded ++ done.more) run.to.held.state (length (loaded ++ done.more)) done.loads;
         replay_matches = done.fronts;
       }
 
   -- the journal failed within the next record
-  pub told-torn : (failed : NotJournaled exchange bytes) → Told limits loaded (ReplaysToFault limits exchange bytes failed) exchange.to.content
-  told-torn failed =
+  pub journal-torn : (failed : NotJournaled exchange bytes) → HasJournal limits loaded (ReplaysToFault limits exchange bytes failed) exchange.to.content
+  journal-torn failed =
       let all : List Request = failed.done ++ failed.last ∷ failed.others in
       let within : All (IsWithin limits.wire) all = asked-within all [] (failed.first ∙ sym (append-nil all)) in
       let done = run-replay_matches limits bounded failed.done loaded exchange.from failed.mid failed.text (first-within limits.wire failed.done (failed.last ∷ failed.others) within)
@@ -204,7 +204,7 @@ module _ (limits : Limits) (bounded : IsBounded limits.wire) (exchange : Exchang
       (last-within limits.wire failed.done failed.last failed.others within) done.limits_stay done.loads failed.torn.recorded in
       record {
         journal = journal ++ take kept record_;
-        told = added-to failed.mid.content exchange.to.content journal (take kept record_) done.content failed.torn.content;
+        content = added-to failed.mid.content exchange.to.content journal (take kept record_) done.content failed.torn.content;
         begins = ap (take (length loaded)) (append_assoc loaded done.more (take kept record_)) ∙ take-append_seam loaded (done.more ++ take kept record_);
         prefixes_load = torn-load limits exchange bytes failed loaded done.more done.content grown (within-or-past kept (length record_));
         replay_matches = λ n past. torn-fronts limits exchange bytes failed loaded done.more done.content grown done.fronts n past (within-or-past n (length journal));

@@ -117,12 +117,12 @@ unloaded-complete unloaded.Budget limits budget journal other untouched did fine
 unloaded-complete unloaded.Memory limits budget journal other untouched did fine = inl refl
 
 -- such a run never has the status of another device or mode
-pub record IsUnloaded (told : Status) : Type 0 where
-  pub no_usage : told ≢ status.Usage
-  pub no_accept : told ≢ status.AcceptFault
-  pub no_capture : told ≢ status.CaptureBroken
-  pub no_read : told ≢ status.ReadFault
-  pub no_write : told ≢ status.WriteFault
+pub record IsUnloaded (given : Status) : Type 0 where
+  pub no_usage : given ≢ status.Usage
+  pub no_accept : given ≢ status.AcceptFault
+  pub no_capture : given ≢ status.CaptureBroken
+  pub no_read : given ≢ status.ReadFault
+  pub no_write : given ≢ status.WriteFault
 
 pub never-unloaded : (fault : LoadFault) → IsUnloaded (unloaded_status fault)
 never-unloaded (unloaded.Broken place) = record { no_usage = λ is. (cc); no_accept = λ is. (cc); no_capture = λ is. (cc); no_read = λ is. (cc); no_write = λ is. (cc) }

@@ -35,7 +35,7 @@ pub record IsFoldOf (limits : Limits) (journal folded : List ℕ) : Type 0 where
 -- the log has a journal that stores the same
 pub record HasFold (limits : Limits) (journal : List ℕ) (left : Option (List ℕ)) : Type 0 where
   pub folded : List ℕ
-  pub told : left ≡ Some folded
+  pub content : left ≡ Some folded
   pub is_fold : IsFoldOf limits journal folded
 
 -- ---- the end

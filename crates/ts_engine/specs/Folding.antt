@@ -11,7 +11,7 @@ use Rattle.ts_execution.specs.declared.checkpoint.CheckpointFault.TheVariants.{L
 -- The log has a journal that loads as a whole to a valid state, of which the same is stored as of this one.
 pub record HasCheckpoint (held : DbState) (left : Option (List ℕ)) : Type 0 where
   pub checkpoint : List ℕ
-  pub told : left ≡ Some checkpoint
+  pub content : left ≡ Some checkpoint
   pub new : State
   pub whole : LoadsTo held.limits checkpoint new
   pub same : RepresentsState held.limits (kept held.state) new

@@ -89,13 +89,13 @@ IsPossible kept_in end.NoMemory = ⊤
 -- ---- the cause
 
 -- a status tells of a fault if and only if the count of that device rose
-pub record HasHostCauses (told : Status) (before now : Faults) : Type 0 where
-  pub hub : told ≡ status.AcceptFault → Rose before.hub now.hub
-  pub lines : told ≡ status.WriteFault → Rose before.lines now.lines
-  pub journal : told ≡ status.JournalFault → Rose before.journal now.journal
-  pub no_hub : told ≢ status.AcceptFault → now.hub ≡ before.hub
-  pub no_lines : told ≢ status.WriteFault → now.lines ≡ before.lines
-  pub no_journal : told ≢ status.JournalFault → now.journal ≡ before.journal
+pub record HasHostCauses (given : Status) (before now : Faults) : Type 0 where
+  pub hub : given ≡ status.AcceptFault → Rose before.hub now.hub
+  pub lines : given ≡ status.WriteFault → Rose before.lines now.lines
+  pub journal : given ≡ status.JournalFault → Rose before.journal now.journal
+  pub no_hub : given ≢ status.AcceptFault → now.hub ≡ before.hub
+  pub no_lines : given ≢ status.WriteFault → now.lines ≡ before.lines
+  pub no_journal : given ≢ status.JournalFault → now.journal ≡ before.journal
 
 -- no count of faults rose
 pub record NoHostFault (before now : Faults) : Type 0 where

@@ -50,7 +50,7 @@ nothing_asked world = record { asked = []; text = []; to = world }
 -- `nothing_lost`: one that contains what was settled loads to a database after all requests whose replies were let out.
 pub record HostPrefixes (limits : Limits) (journal : List ℕ) (from : Snapshot) (run : HostRun) (left : Option (List ℕ)) : Type 0 where
   pub stored : List ℕ
-  pub told : left ≡ Some stored
+  pub content : left ≡ Some stored
   pub begins : take (length journal) stored ≡ journal
   pub prefixes_load : (n : ℕ) → FrontLoads limits stored n
   pub replay_matches : (n : ℕ) → length journal ≤ n → PrefixReplays limits from (whole_run run) (take n stored)

@@ -77,7 +77,7 @@ pub record GoesOn (run : JournalRun) (bytes : List ℕ) (failed : Bool) (writes 
   pub others : List Request
   pub first : requests run.seen.limits.wire bytes ≡ (handled (exchange_over run loaded place failed held) written).asked ++ others
   pub journal : List ℕ
-  pub told : run.journal_left ≡ Some journal
+  pub content : run.journal_left ≡ Some journal
   pub begins : take place journal ≡ take place run.journal
   pub prefixes_load : (n : ℕ) → FrontLoads run.seen.limits journal n
   pub replay_matches : (n : ℕ) → place ≤ n → replays (exchange_over run loaded place failed held) written (take n journal)
@@ -152,10 +152,10 @@ pub record IsAnswered (ended : JournalEnd) (failed : Bool → Exchange journaled
   pub complete : (Rose reads reads' → ⊥) → (Rose writes writes' → ⊥) → (Rose faults faults' → ⊥) → IsOutOfMemoryOr (status_of ended) (status_piped limits budget bytes)
 
 -- a status tells of a fault if and only if its counter rose
-pub record HasJournalCauses (told : Status) (reads reads' writes writes' faults faults' : ℕ) : Type 0 where
-  pub read : told ≡ status.ReadFault → Rose reads reads'
-  pub write : told ≡ status.WriteFault → Rose writes writes'
-  pub failed : told ≡ status.JournalFault → Rose faults faults'
-  pub unread : told ≢ status.ReadFault → reads' ≡ reads
-  pub unwritten : told ≢ status.WriteFault → writes' ≡ writes
-  pub unfailed : told ≢ status.JournalFault → faults' ≡ faults
+pub record HasJournalCauses (given : Status) (reads reads' writes writes' faults faults' : ℕ) : Type 0 where
+  pub read : given ≡ status.ReadFault → Rose reads reads'
+  pub write : given ≡ status.WriteFault → Rose writes writes'
+  pub failed : given ≡ status.JournalFault → Rose faults faults'
+  pub unread : given ≢ status.ReadFault → reads' ≡ reads
+  pub unwritten : given ≢ status.WriteFault → writes' ≡ writes
+  pub unfailed : given ≢ status.JournalFault → faults' ≡ faults
