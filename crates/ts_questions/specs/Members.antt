@@ -52,8 +52,8 @@ reply_then (Some one) (Some others) = Some (one ∷ others)
 
 -- the elements of all keys, or nothing if one is missing
 abbrev pub each_reply : {X : Type 0} → (Key → Option X) → List Key → Option (List X)
-each_reply told [] = Some []
-each_reply told (k ∷ ks) = reply_then (told k) (each_reply told ks)
+each_reply element [] = Some []
+each_reply element (k ∷ ks) = reply_then (element k) (each_reply element ks)
 
 -- the element exists, and its text was appended
 abbrev pub IsAdded : {X Y : Type 0} → (X → List Y) → Option X → (before after : List Y) → Type 0

@@ -21,20 +21,20 @@ use ts_sample::Steps;
 /// The sink after receiving the rows of a row plan, in the requested order.
 pub(crate) fn emit_planned_rows<T: FallibleRowSink, L: Ledger>(
     series_query: &SeriesQuery<'_>,
-    told: &RowPlan,
+    plan: &RowPlan,
     row_sink: T,
     steps: &mut Steps<L>,
 ) -> T
-    requires told { IsRowPlan series_query.now.query.now (queried_samples series_query.now) told.now }
+    requires plan { IsRowPlan series_query.now.query.now (queried_samples series_query.now) plan.now }
     requires none { T.has row_sink [] }
     ensures rows { T.has result (queried_rows series_query.now) }
     ensures seams { IsSeamed (queried_pieces series_query.now) series_query.now.query.now.from
-        series_query.now.query.now.to (steps.old + steps_beside series_query.now told.now) steps.new }
+        series_query.now.query.now.to (steps.old + steps_beside series_query.now plan.now) steps.new }
 {
     if series_query.query.reverse {
-        return emit_reversed(series_query, told, row_sink, steps);
+        return emit_reversed(series_query, plan, row_sink, steps);
     }
-    match told {
+    match plan {
         RowPlan::Samples => emit_samples(series_query, row_sink, steps),
         RowPlan::Buckets(bucket_range) => emit_gap_filled(
             series_query,
@@ -71,21 +71,21 @@ fn emit_samples<T: RowSink, L: Ledger>(
 // The sink after receiving the rows newest first. Rows of buckets are collected before the first is emitted.
 fn emit_reversed<T: FallibleRowSink, L: Ledger>(
     series_query: &SeriesQuery<'_>,
-    told: &RowPlan,
+    plan: &RowPlan,
     mut row_sink: T,
     steps: &mut Steps<L>,
 ) -> T
     requires backward { series_query.now.query.now.reverse ≡ true }
-    requires told { IsRowPlan series_query.now.query.now (queried_samples series_query.now) told.now }
+    requires plan { IsRowPlan series_query.now.query.now (queried_samples series_query.now) plan.now }
     requires none { T.has row_sink [] }
     ensures rows { T.has result (queried_rows series_query.now) }
     ensures seams { IsSeamed (queried_pieces series_query.now) series_query.now.query.now.from
-        series_query.now.query.now.to (steps.old + steps_beside series_query.now told.now) steps.new }
+        series_query.now.query.now.to (steps.old + steps_beside series_query.now plan.now) steps.new }
 {
     if series_query.query.buckets.is_none() {
         return emit_samples_reversed(series_query, row_sink, steps);
     }
-    match reversed_rows(series_query, told, steps) {
+    match reversed_rows(series_query, plan, steps) {
         Ok(rows) => emit_rows(&rows, &mut row_sink),
         Err(_) => row_sink.lose(),
     }
@@ -95,16 +95,16 @@ fn emit_reversed<T: FallibleRowSink, L: Ledger>(
 /// The rows of a row plan, newest first.
 pub(crate) fn reversed_rows<L: Ledger>(
     series_query: &SeriesQuery<'_>,
-    told: &RowPlan,
+    plan: &RowPlan,
     steps: &mut Steps<L>,
 ) -> Result<Vec<Row>, AllocError>
     requires backward { series_query.now.query.now.reverse ≡ true }
-    requires told { IsRowPlan series_query.now.query.now (queried_samples series_query.now) told.now }
+    requires plan { IsRowPlan series_query.now.query.now (queried_samples series_query.now) plan.now }
     ensures rows { IfOk result (λ found. map row_of found.items ≡ queried_rows series_query.now) }
     ensures seams { IsSeamed (queried_pieces series_query.now) series_query.now.query.now.from
-        series_query.now.query.now.to (steps.old + steps_beside series_query.now told.now) steps.new }
+        series_query.now.query.now.to (steps.old + steps_beside series_query.now plan.now) steps.new }
 {
-    match told {
+    match plan {
         RowPlan::Samples => reversed_sample_rows(series_query, steps),
         RowPlan::Buckets(bucket_range) => reversed_gap_filled_rows(
             series_query,

@@ -27,7 +27,7 @@ pub(crate) fn gather<L: Ledger>(
 ) -> Result<bool, RangeFault>
     requires numbered { All (IsIdOfOneKey db.now.ids) ids.now }
     requires group_query { IsGroupQuery group_query.now }
-    ensures told { IfOk result (λ lost. list_any (is_too_long db.now group_query.now) ids.now ≡ false) }
+    ensures few { IfOk result (λ lost. list_any (is_too_long db.now group_query.now) ids.now ≡ false) }
     ensures gathered { IfOk result (λ lost. lost ≡ false
         → AreAddedTo db.now group_query.now ids.now group.old group.new) }
     ensures stays { IfOk result (λ lost. lost ≡ false → before ≡ false) }
@@ -52,7 +52,7 @@ fn gather_next<L: Ledger>(
 ) -> Result<bool, RangeFault>
     requires numbered { IsIdOfOneKey db.now.ids id }
     requires group_query { IsGroupQuery group_query.now }
-    ensures told { IfOk result (λ now. is_too_long db.now group_query.now id ≡ false) }
+    ensures few { IfOk result (λ now. is_too_long db.now group_query.now id ≡ false) }
     ensures added { IfOk result (λ now. now ≡ false → AreAddedTo db.now group_query.now (id ∷ []) group.old group.new) }
     ensures stays { IfOk result (λ now. now ≡ false → lost ≡ false) }
     ensures refused { IfErr result (λ fault. is_too_long db.now group_query.now id ≡ true) }
@@ -90,7 +90,7 @@ fn add_series<L: Ledger>(
 ) -> Result<(), RangeFault>
     requires numbered { IsIdOfOneKey db.now.ids id }
     requires group_query { IsGroupQuery group_query.now }
-    ensures told { OnOk result (is_too_long db.now group_query.now id ≡ false) }
+    ensures few { OnOk result (is_too_long db.now group_query.now id ≡ false) }
     ensures added { OnOk result (AreAddedTo db.now group_query.now (id ∷ []) group.old group.new) }
     ensures fault { IfErr result (λ fault. is_too_many fault ≡ is_too_long db.now group_query.now id) }
     ensures steps { steps.new ≤ steps.old + id_steps db.now group_query.now id }

@@ -32,7 +32,7 @@ pub(crate) fn add_groups<L: Ledger>(
 ) -> Result<bool, RangeFault>
     requires numbered { All (IsIdOfOneKey db.now.ids) ids.now }
     requires group_query { IsGroupQuery group_query.now }
-    ensures told { IfOk result (λ lost. refusals db.now group_query.now ids.now ≡ 0) }
+    ensures few { IfOk result (λ lost. refusals db.now group_query.now ids.now ≡ 0) }
     ensures added { IfOk result (λ lost. lost ≡ false
         → out.new.bytes ≡ out.old.bytes ++ text (array (groups_of_ids db.now group_query.now ids.now))) }
     ensures refused { IfErr result (λ fault. 1 ≤ refusals db.now group_query.now ids.now) }
@@ -57,7 +57,7 @@ fn lost_unless_refused<L: Ledger>(
     steps: &mut Steps<L>,
 ) -> Result<bool, RangeFault>
     requires { All (IsIdOfOneKey db.now.ids) ids.now }
-    ensures told { IfOk result (λ lost. refusals db.now group_query.now ids.now ≡ 0) }
+    ensures few { IfOk result (λ lost. refusals db.now group_query.now ids.now ≡ 0) }
     ensures lost { IfOk result (λ lost. lost ≡ true) }
     ensures refused { IfErr result (λ fault. 1 ≤ refusals db.now group_query.now ids.now) }
     ensures steps { steps.new ≤ steps.old + ids_steps db.now group_query.now ids.now }
@@ -97,7 +97,7 @@ fn add_group<L: Ledger>(
 ) -> Result<bool, RangeFault>
     requires numbered { All (IsIdOfOneKey db.now.ids) ids.now }
     requires group_query { IsGroupQuery group_query.now }
-    ensures told { IfOk result (λ lost. list_any (is_too_long db.now group_query.now) ids.now ≡ false) }
+    ensures few { IfOk result (λ lost. list_any (is_too_long db.now group_query.now) ids.now ≡ false) }
     ensures added { IfOk result (λ lost. lost ≡ false
         → out.new.bytes ≡ out.old.bytes ++ text (group_reply db.now group_query.now value.now ids.now)) }
     ensures stays { IfOk result (λ lost. lost ≡ false → before ≡ false) }

@@ -152,10 +152,10 @@ pub(crate) fn rows_of<L: Ledger>(
         series_query.now.query.now.to }
 {
     series_query.known();
-    let Some(told) = row_plan(series_query, steps) else {
+    let Some(plan) = row_plan(series_query, steps) else {
         return Err(RangeFault::EmptyRows);
     };
-    match planned_rows(series_query, &told, steps) {
+    match planned_rows(series_query, &plan, steps) {
         Ok(rows) => Ok(rows),
         Err(fault) => Err(RangeFault::Memory(fault)),
     }
@@ -164,17 +164,17 @@ pub(crate) fn rows_of<L: Ledger>(
 // The rows of a row plan, in a list.
 fn planned_rows<L: Ledger>(
     series_query: &SeriesQuery<'_>,
-    told: &RowPlan,
+    plan: &RowPlan,
     steps: &mut Steps<L>,
 ) -> Result<Vec<Row>, AllocError>
-    requires told { IsRowPlan series_query.now.query.now (queried_samples series_query.now) told.now }
+    requires plan { IsRowPlan series_query.now.query.now (queried_samples series_query.now) plan.now }
     ensures rows { IfOk result (λ found. map row_of found.items ≡ queried_rows series_query.now) }
     ensures seams { IsSeamed (queried_pieces series_query.now) series_query.now.query.now.from
-        series_query.now.query.now.to (steps.old + steps_beside series_query.now told.now) steps.new }
+        series_query.now.query.now.to (steps.old + steps_beside series_query.now plan.now) steps.new }
 {
     if series_query.query.reverse && series_query.query.buckets.is_some() {
-        return reversed_rows(series_query, told, steps);
+        return reversed_rows(series_query, plan, steps);
     }
     let row_sink = RowList::with_reserved(series_query.db.alloc(), 0)?;
-    emit_planned_rows(series_query, told, row_sink, steps).into_rows()
+    emit_planned_rows(series_query, plan, row_sink, steps).into_rows()
 }

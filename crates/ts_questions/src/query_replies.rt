@@ -103,24 +103,24 @@ fn write_rows<L: Ledger>(series_query: &SeriesQuery<'_>, out: &mut Out, steps: &
     series_query.known();
     match row_plan(series_query, steps) {
         None => put(&too_many_rows(), out),
-        Some(told) => write_planned_rows(series_query, &told, out, steps),
+        Some(plan) => write_planned_rows(series_query, &plan, out, steps),
     }
 }
 
 // Writes the rows of a row plan, one by one.
 fn write_planned_rows<L: Ledger>(
     series_query: &SeriesQuery<'_>,
-    told: &RowPlan,
+    plan: &RowPlan,
     out: &mut Out,
     steps: &mut Steps<L>,
 )
-    requires told { IsRowPlan series_query.now.query.now (queried_samples series_query.now) told.now }
+    requires plan { IsRowPlan series_query.now.query.now (queried_samples series_query.now) plan.now }
     requires empty { out.old.bytes ≡ [] }
     requires room { 128 ≤ out.old.spare }
     ensures reply { IsReplyText (Rows (queried_rows series_query.now)) out.new.bytes }
     ensures room { 128 ≤ length out.new.bytes + out.new.spare }
     ensures seams { IsSeamed (queried_pieces series_query.now) series_query.now.query.now.from
-        series_query.now.query.now.to (steps.old + steps_beside series_query.now told.now) steps.new }
+        series_query.now.query.now.to (steps.old + steps_beside series_query.now plan.now) steps.new }
 {
     match out.reserve(FIRST_ROOM) {
         Ok(()) => {}
@@ -130,7 +130,7 @@ fn write_planned_rows<L: Ledger>(
         }
     }
     let row_sink = RowTexts::begin(out.take());
-    *out = emit_planned_rows(series_query, told, row_sink, steps).finish();
+    *out = emit_planned_rows(series_query, plan, row_sink, steps).finish();
 }
 
 /// Writes the reply to TS.GET. Allocates nothing.

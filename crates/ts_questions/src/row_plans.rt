@@ -31,10 +31,10 @@ pub(crate) fn row_plan<L: Ledger>(
     series_query: &SeriesQuery<'_>,
     steps: &mut Steps<L>,
 ) -> Option<RowPlan>
-    ensures told { IfSome result (IsRowPlan series_query.now.query.now (queried_samples series_query.now)) }
-    ensures few { IfSome result (λ told. queried_answer series_query.now ≡ Some (queried_rows series_query.now)) }
+    ensures plan { IfSome result (IsRowPlan series_query.now.query.now (queried_samples series_query.now)) }
+    ensures few { IfSome result (λ plan. queried_answer series_query.now ≡ Some (queried_rows series_query.now)) }
     ensures many { IfNone result (queried_answer series_query.now ≡ None) }
-    ensures steps { IfSome result (λ told. steps.new + steps_beside series_query.now told
+    ensures steps { IfSome result (λ plan. steps.new + steps_beside series_query.now plan
         ≤ steps.old + 3 * queried_reach series_query.now) }
     ensures refused { IfNone result (steps.new ≤ steps.old + queried_reach series_query.now) }
 {
@@ -51,10 +51,10 @@ fn gap_filled_row_plan<L: Ledger>(
     steps: &mut Steps<L>,
 ) -> Option<RowPlan>
     requires { FillsGaps series_query.now.query.now buckets.now }
-    ensures told { IfSome result (IsRowPlan series_query.now.query.now (queried_samples series_query.now)) }
-    ensures few { IfSome result (λ told. queried_answer series_query.now ≡ Some (queried_rows series_query.now)) }
+    ensures plan { IfSome result (IsRowPlan series_query.now.query.now (queried_samples series_query.now)) }
+    ensures few { IfSome result (λ plan. queried_answer series_query.now ≡ Some (queried_rows series_query.now)) }
     ensures many { IfNone result (queried_answer series_query.now ≡ None) }
-    ensures steps { IfSome result (λ told. steps.new + steps_beside series_query.now told
+    ensures steps { IfSome result (λ plan. steps.new + steps_beside series_query.now plan
         ≤ steps.old + 3 * queried_reach series_query.now) }
     ensures refused { IfNone result (steps.new ≤ steps.old + queried_reach series_query.now) }
 {

@@ -53,11 +53,11 @@ returns-clause-fault g c =
     (λ b. b ≡ is_too_long c.args.db.now c.args.group_query.now c.args.id) c.in_memory.ensures
     (sym (ap is_none (sym (answered g (goal.at.returns-clause-fault g c).After-new-series_query) ∙ c.in_ok-rows.ensures.rows)))
 
-pub returns-clause-told : goal.returns-clause-told
-returns-clause-told g c =
+pub returns-clause-few : goal.returns-clause-few
+returns-clause-few g c =
     in-memory-done c.add_rows.result c.in_memory.result _ (is_too_long c.args.db.now c.args.group_query.now c.args.id ≡ false)
     c.in_memory.ensures
-    (λ done. ap is_none (sym (answered g (goal.at.returns-clause-told g c).After-new-series_query) ∙ c.in_ok-rows.ensures.rows))
+    (λ done. ap is_none (sym (answered g (goal.at.returns-clause-few g c).After-new-series_query) ∙ c.in_ok-rows.ensures.rows))
     c.add_rows.ensures
 
 pub returns-clause-added : goal.returns-clause-added

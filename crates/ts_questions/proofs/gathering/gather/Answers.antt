@@ -13,7 +13,7 @@ loop-id-preserved g c =
     left-less c.args.db.now c.args.group_query.now c.args.ids.now (drop c.loop-id.id-index c.args.ids.now) (drop (c.loop-id.id-index + 1) c.args.ids.now) _
     c.args.group.now c.loop-id.group c.gather_next.new.group c.args.before c.loop-id.lost c.in_ok-lost.lost c.args.steps.now c.loop-id.steps c.gather_next.new.steps
     (drop_more c.args.ids.now c.loop-id.id-index _ c.loop-id-test.true) c.loop-id.invariant
-    c.in_ok-lost.ensures.told c.in_ok-lost.ensures.added c.in_ok-lost.ensures.stays c.gather_next.ensures.steps
+    c.in_ok-lost.ensures.few c.in_ok-lost.ensures.added c.in_ok-lost.ensures.stays c.gather_next.ensures.steps
 
 pub returns-in_err-lost-clause-refused : goal.returns-in_err-lost-clause-refused
 returns-in_err-lost-clause-refused g c =
@@ -31,8 +31,8 @@ returns-in_err-lost-clause-steps g c =
     (drop_more c.args.ids.now c.loop-id.id-index _ c.loop-id-test.true) c.loop-id.invariant
     c.gather_next.ensures.steps
 
-pub returns-clause-told : goal.returns-clause-told
-returns-clause-told g c =
+pub returns-clause-few : goal.returns-clause-few
+returns-clause-few g c =
     left-told c.args.db.now c.args.group_query.now c.args.ids.now (drop c.loop-id.id-index c.args.ids.now) c.args.group.now c.loop-id.group c.args.before c.loop-id.lost c.args.steps.now c.loop-id.steps
     (drop_of_length-le c.args.ids.now c.loop-id-test.false) c.loop-id.invariant
 

@@ -27,7 +27,7 @@ loop-value-preserved g c = record {
   groups = to-come-next c.args.db.now c.args.group_query.now c.args.ids.now c.loop-value.value-iterator c.next.new.self (c.in-Some.value.now, c.in-Some.numbers.now)
       c.begin_members-lost.new.out.bytes c.loop-value.out.bytes c.begin_members-lost.result c.loop-value.lost c.args.steps.now c.loop-value.steps
       c.in-Some.ensures.steps c.loop-value.invariant.groups c.add_group.new.out.bytes c.in_ok-lost.lost c.add_group.new.steps
-      (subst (λ (l : List Id). list_any (is_too_long c.args.db.now c.args.group_query.now) l ≡ false) c.all.ensures c.in_ok-lost.ensures.told)
+      (subst (λ (l : List Id). list_any (is_too_long c.args.db.now c.args.group_query.now) l ≡ false) c.all.ensures c.in_ok-lost.ensures.few)
       (subst (λ (l : List Id). c.in_ok-lost.lost ≡ false → c.add_group.new.out.bytes ≡ c.loop-value.out.bytes ++ text (group_reply c.args.db.now c.args.group_query.now c.in-Some.value.now l)) c.all.ensures c.in_ok-lost.ensures.added)
       c.in_ok-lost.ensures.stays
       (subst (λ (l : List Id). c.add_group.new.steps ≤ c.loop-value.steps + sum_by (id_steps c.args.db.now c.args.group_query.now) l) c.all.ensures c.add_group.ensures.steps);
@@ -52,8 +52,8 @@ returns-in_err-lost-clause-steps g c =
 pub returns-in_err-lost-clause-room : goal.returns-in_err-lost-clause-room
 returns-in_err-lost-clause-room g c = omega (arith, c.loop-value.invariant.room, c.add_group.ensures.room)
 
-pub returns-clause-told : goal.returns-clause-told
-returns-clause-told g c =
+pub returns-clause-few : goal.returns-clause-few
+returns-clause-few g c =
     come-told c.args.db.now c.args.group_query.now c.args.ids.now c.loop-value.value-iterator
     c.begin_members-lost.new.out.bytes c.loop-value.out.bytes c.begin_members-lost.result c.loop-value.lost c.args.steps.now c.loop-value.steps
     c.in-None.ensures.steps.0 c.loop-value.invariant.groups

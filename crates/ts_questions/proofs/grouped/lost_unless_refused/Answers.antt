@@ -22,8 +22,8 @@ returns-then-is_number_refused-clause-steps g c =
     unasked-few c.args.db.now c.args.group_query.now c.args.ids.now (drop c.loop-id.id-index c.args.ids.now) (drop (c.loop-id.id-index + 1) c.args.ids.now) _ c.args.steps.now c.loop-id.steps c.is_number_refused.new.steps c.is_number_refused.result
     (drop_more c.args.ids.now c.loop-id.id-index _ c.loop-id-test.true) c.loop-id.invariant c.is_number_refused.ensures.refused c.is_number_refused.ensures.steps
 
-pub returns-clause-told : goal.returns-clause-told
-returns-clause-told g c =
+pub returns-clause-few : goal.returns-clause-few
+returns-clause-few g c =
     unasked-none c.args.db.now c.args.group_query.now c.args.ids.now (drop c.loop-id.id-index c.args.ids.now) c.args.steps.now c.loop-id.steps
     (drop_of_length-le c.args.ids.now c.loop-id-test.false) c.loop-id.invariant
 

@@ -9,4 +9,4 @@ returns-clause-reply g c = c.finish.ensures.reply (queried_rows c.args.series_qu
 pub returns-in-Err-clause-seams : goal.returns-in-Err-clause-seams
 returns-in-Err-clause-seams g c =
     let q = c.args.series_query.now in
-    seamed-still (queried_pieces q) q.query.now.from q.query.now.to (c.args.steps.now + steps_beside q c.args.told.now) c.args.steps.now (omega arith)
+    seamed-still (queried_pieces q) q.query.now.from q.query.now.to (c.args.steps.now + steps_beside q c.args.plan.now) c.args.steps.now (omega arith)

@@ -14,7 +14,7 @@ returns-in-Some-clause-reply g c =
 pub returns-in-Some-clause-steps : goal.returns-in-Some-clause-steps
 returns-in-Some-clause-steps g c =
     let q = c.args.series_query.now in
-    within-series_query q (steps_beside q c.in-Some.told) c.args.steps.now c.row_plan.new.steps c.write_planned_rows.new.steps
+    within-series_query q (steps_beside q c.in-Some.plan) c.args.steps.now c.row_plan.new.steps c.write_planned_rows.new.steps
     (c.known.ensures.around q.query.now.from q.query.now.to) c.in-Some.ensures.steps c.write_planned_rows.ensures.seams
 
 pub returns-in-None-clause-steps : goal.returns-in-None-clause-steps

@@ -18,7 +18,7 @@ module _ (g : _) (c : After-are_too_many g) where
       c.are_too_many.ensures all (λ told. c.ends-ends.ensures.ends ∙ ends_are all)
       ∙ ap (λ (l : Limits). includes_empty q.buckets && nat_lt l.empty_rows (length (rows q all))) c.limits.ensures.limits
 
-pub returns-in-None-clause-told : goal.returns-in-None-clause-told
-returns-in-None-clause-told g c =
+pub returns-in-None-clause-plan : goal.returns-in-None-clause-plan
+returns-in-None-clause-plan g c =
     let series_query = c.args.series_query.now in
     no-rows series_query.query.now c.args.buckets.now c.requires (queried_samples series_query) c.ends-ends.result (c.ends-ends.ensures.ends ∙ ends_are (queried_samples series_query)) c.in-None.ensures.none

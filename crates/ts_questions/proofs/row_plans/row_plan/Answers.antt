@@ -4,8 +4,8 @@ use Rattle.ts_range.proofs.Whole.{no-limit, none-filled}
 use Rattle.ts_questions.specs.Asking.{queried_samples}
 use Rattle.ts_questions.proofs.row_plans.row_plan.Goals as goal
 
-pub returns-in-None-clause-told : goal.returns-in-None-clause-told
-returns-in-None-clause-told g c = none-filled c.args.series_query.now.query.now c.in-None.ensures.none c.args.series_query.now.query.now.buckets refl
+pub returns-in-None-clause-plan : goal.returns-in-None-clause-plan
+returns-in-None-clause-plan g c = none-filled c.args.series_query.now.query.now c.in-None.ensures.none c.args.series_query.now.query.now.buckets refl
 
 pub returns-in-None-clause-few : goal.returns-in-None-clause-few
 returns-in-None-clause-few g c =

@@ -5,14 +5,14 @@ use Rattle.ts_questions.proofs.group_query.GroupQueryMultiReply.put_all.Goals as
 
 pub returns-clause-few : goal.returns-clause-few
 returns-clause-few g c =
-    IfOk-weaker c.add_groups.result _ _ (λ lost none keys are. numbers-few c.args.db.now c.args.self.now c.requires.ready keys c.args.ids.now are c.known_ids.ensures none) c.add_groups.ensures.told
+    IfOk-weaker c.add_groups.result _ _ (λ lost none keys are. numbers-few c.args.db.now c.args.self.now c.requires.ready keys c.args.ids.now are c.known_ids.ensures none) c.add_groups.ensures.few
 
 pub returns-clause-written : goal.returns-clause-written
 returns-clause-written g c =
     both-ok c.add_groups.result _ _ _
     (λ lost none added kept keys are.
     numbers-text c.args.db.now c.args.self.now c.requires.ready keys c.args.ids.now are c.known_ids.ensures c.args.out.now.bytes c.add_groups.new.out.bytes c.requires.empty none (added kept))
-    c.add_groups.ensures.told c.add_groups.ensures.added
+    c.add_groups.ensures.few c.add_groups.ensures.added
 
 pub returns-clause-refused : goal.returns-clause-refused
 returns-clause-refused g c =
