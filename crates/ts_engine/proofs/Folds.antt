@@ -75,6 +75,7 @@ module _ (limits : Limits) (budget : ℕ) (journal : List ℕ) (left : Option (L
       loads = read.0;
       new = has.new;
       whole = subst (λ (l : Limits). LoadsTo l has.checkpoint has.new) read.1 has.whole;
+      valid = subst (λ (l : Limits). IsValid l has.new) read.1 has.same.valid;
       same = sym has.same.kept;
     };
   }

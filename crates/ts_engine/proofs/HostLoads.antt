@@ -7,6 +7,7 @@ use Rattle.ts_io.proofs.Adding.{adds_none}
 use Rattle.ts_spec.specs.State.{State, empty}
 use Rattle.ts_spec.specs.StoredSeries as stored
 use Rattle.ts_spec.specs.StreamPrefixes.{IsWithin}
+use Rattle.ts_spec.specs.Valid.{IsValid}
 use Rattle.ts_spec.specs.declared.limits.Limits.{Limits}
 use Rattle.ts_db.specs.DbState.{DbState}
 use Rattle.ts_journal.specs.Limits.{IsBounded}
@@ -146,6 +147,7 @@ module _ (run : HostView) (bounded : IsBounded run.seen.limits.wire) (bytes : Li
           loads = opened.0.0;
           new = fold.new;
           whole = subst (λ (l : Limits). LoadsTo l fold.checkpoint fold.new) opened.0.1 fold.whole;
+          valid = subst (λ (l : Limits). IsValid l fold.new) opened.0.1 fold.same.valid;
           same = sym fold.same.kept;
         };
       })

@@ -4,6 +4,7 @@ use Rattle.std.specs.Prelude.{◌≡◌, ◌⊎◌, ◌<◌, ℕ, List, length, 
 use Rattle.std.specs.declared.alloc.Global.{Global}
 use Rattle.ts_spec.specs.State.{State}
 use Rattle.ts_spec.specs.StoredSeries.{kept}
+use Rattle.ts_spec.specs.Valid.{IsValid}
 use Rattle.ts_spec.specs.declared.limits.Limits.{Limits}
 use Rattle.ts_journal.specs.Loading.{Loads}
 use Rattle.ts_checkpoint.specs.Loading.{load, LoadsTo}
@@ -23,13 +24,15 @@ IsFold words = asked words ≡ Some mode.Fold
 
 -- ---- the journal
 
--- Both journals load, the second one as a whole, and the same is stored then. So all later commands are answered alike.
+-- Both journals load, the second one as a whole to a valid state, and the same is stored then. So all later commands are
+-- answered alike.
 pub record IsFoldOf (limits : Limits) (journal folded : List ℕ) : Type 0 where
   pub old : State
   pub place : ℕ
   pub loads : load limits journal ≡ Loads old place
   pub new : State
   pub whole : LoadsTo limits folded new
+  pub valid : IsValid limits new
   pub same : kept new ≡ kept old
 
 -- the log has a journal that stores the same
