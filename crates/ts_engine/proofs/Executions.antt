@@ -24,7 +24,7 @@ does-item : (limits : Limits) (reading : ℕ) (t : Triple) (old new : State) (it
     → item_of (triple_step limits old reading t.key t.at t.value).response ≡ item ∷ []
     → (is_written item ≡ false → (triple_step limits old reading t.key t.at t.value).state ≡ old)
     → new ≡ (triple_step limits old reading t.key t.at t.value).state → ExecutesTriple (is_number (item_reply item)) limits reading t old new
-does-item limits reading t old new (Wrote time) told stays is = record { time = time; told = told; state = is }
+does-item limits reading t old new (Wrote time) wrote stays is = record { time = time; wrote = wrote; state = is }
 does-item limits reading t old new (IsWrong fault) told stays is = is ∙ stays refl
 does-item limits reading t old new (Refuses refusal) told stays is = is ∙ stays refl
 

@@ -18,7 +18,7 @@ use Rattle.ts_spec.specs.Wire.{Request}
 use Rattle.ts_spec.proofs.PlainReplies.{fault-plain, memory-plain, reply-lines}
 use Rattle.ts_db.specs.DbState.{DbState, DbView, Simulates}
 use Rattle.ts_journal.specs.Fixed.{is_fixed}
-use Rattle.ts_journal.specs.Content.{told}
+use Rattle.ts_journal.specs.Content.{bytes_after}
 use Rattle.ts_journal.specs.Record.{is_change, is_error, items_of, record_of, AreMaddItems}
 use Rattle.ts_journal.specs.declared.record.Record.{Record}
 use Rattle.ts_execution.specs.Journaling.{IsUnrecorded, IsRecorded, RecordedBy, Recorded}
@@ -122,7 +122,7 @@ no-record (Drop keys) reading reply h = absurd (false≢true (sym h))
 taken-record : (c : Command) (reading : ℕ) (r : Option Record) (reply : Reply) (written : List ℕ) → HasRecord reading c r → written ≡ text reply
     → (is_change c ≡ true → AreMaddItems (items_of reply)) → record_bytes r written ≡ record_of c reading reply
 taken-record c reading None reply written has its_text are = sym (no-record c reading reply (sym has.0))
-taken-record c reading (Some r) reply written has its_text are = ap (told r) its_text ∙ has.1 reply (are (sym has.0))
+taken-record c reading (Some r) reply written has its_text are = ap (bytes_after r) its_text ∙ has.1 reply (are (sym has.0))
 
 told-done : (c : Command) (reading : ℕ) (old new : DbState) (reply : Reply) → IsAnswered reading c old reply new ⊎ RunsOutOfMemory reading c old reply new → is_change c ≡ true → AreMaddItems (items_of reply)
 told-done c reading old new reply (inl answered) change = told-change c reading old new reply change answered

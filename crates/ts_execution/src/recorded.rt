@@ -6,7 +6,7 @@ ghost use Rattle.ts_command.specs.Answers.{HasTime};
 ghost use Rattle.ts_command.specs.Reading.{command_of};
 ghost use Rattle.ts_db.specs.DbState.{Simulates};
 ghost use Rattle.ts_journal.specs.Record.{is_change, IsRecordOf};
-ghost use Rattle.ts_journal.specs.Content.{told};
+ghost use Rattle.ts_journal.specs.Content.{bytes_after};
 ghost use Rattle.ts_execution.specs.Journaling.{Recorded, IsRecorded};
 ghost use Rattle.ts_execution.specs.Recording.{record_bytes, HasRecord};
 

@@ -149,7 +149,7 @@ steps-do limits reading (t ∷ ts) m so_far =
     does : (item : Item) → item_of (triple_step limits m reading t.key t.at t.value).response ≡ item ∷ []
         → (is_written item ≡ false → (triple_step limits m reading t.key t.at t.value).state ≡ m)
         → ExecutesTriple (is_number (item_reply item)) limits reading t m (triple_step limits m reading t.key t.at t.value).state
-    does (Wrote time) told stays = record { time = time; told = told; state = refl }
+    does (Wrote time) wrote stays = record { time = time; wrote = wrote; state = refl }
     does (IsWrong fault) told stays = stays refl
     does (IsRefused refusal) told stays = stays refl
 

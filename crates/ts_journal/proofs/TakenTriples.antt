@@ -40,7 +40,7 @@ samples-accepted_part limits reading (t ∷ ts) m n Empty h = absurd h
 samples-accepted_part limits reading (t ∷ ts) m n (text.Replies.Item reply replies) (mid, here, after) = go (is_number reply) here (samples-accepted_part limits reading ts mid n replies after)
   where
     go : (b : Bool) → ExecutesTriple b limits reading t m mid → AreSamples (accepted_part ts replies) → AreSamples (if b then t ∷ accepted_part ts replies else accepted_part ts replies)
-    go true here others = (accepted_part-sample limits m reading t.key t.at t.value (subst IsTime (sym here.told) tt), others)
+    go true here others = (accepted_part-sample limits m reading t.key t.at t.value (subst IsTime (sym here.wrote) tt), others)
     go false here others = others
 
 -- and is in its range, as it was read
@@ -75,7 +75,7 @@ do-accepted_part limits reading other (t ∷ ts) m n (text.Replies.Item reply re
           times = here.time ∷ rest.times;
           done = ap (λ (o : Outcome). madd limits o.state other (so_far ++ item_of o.response) more) (triple-resolved limits m reading other t.key t.at t.value)
               ∙ ap (λ (s : State). madd limits s other (so_far ++ item_of (triple_step limits m reading t.key t.at t.value).response) more) (sym here.state)
-              ∙ ap (λ items. madd limits mid other (so_far ++ items) more) here.told
+              ∙ ap (λ items. madd limits mid other (so_far ++ items) more) here.wrote
               ∙ rest.done
               ∙ ap (λ items. record { state = n; response = Items items }) (append_assoc so_far (Wrote here.time ∷ []) (map (λ t. Wrote t) rest.times));
         }

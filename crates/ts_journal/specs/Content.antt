@@ -21,5 +21,5 @@ abbrev pub written : Content → (reply : List ℕ) → List ℕ
 written h reply = if begins_error reply then [] else written_by h reply
 
 -- the same for a prepared record
-abbrev pub told : Record → (reply : List ℕ) → List ℕ
-told r reply = written r.held reply
+abbrev pub bytes_after : Record → (reply : List ℕ) → List ℕ
+bytes_after r reply = written r.held reply

@@ -14,7 +14,7 @@ use Rattle.ts_journal.specs.Record.{is_error, is_number, items_of, record_of}
 -- the triple's sample was written, which leads to the new state
 pub record IsTripleWritten (limits : Limits) (reading : ℕ) (t : Triple) (old new : State) : Type 0 where
   pub time : ℕ
-  pub told : item_of (triple_step limits old reading t.key t.at t.value).response ≡ Wrote time ∷ []
+  pub wrote : item_of (triple_step limits old reading t.key t.at t.value).response ≡ Wrote time ∷ []
   pub state : new ≡ (triple_step limits old reading t.key t.at t.value).state
 
 -- what a triple does: it writes a sample if its item is a number; otherwise it changes nothing, because it failed, is

@@ -41,7 +41,7 @@ pub struct Record {
 impl Record {
     ghost use Rattle.ts_command.specs.Reading.{command_of};
     ghost use Rattle.ts_command.specs.SimpleAdd.{simple_add_of};
-    ghost use Rattle.ts_journal.specs.Content.{told};
+    ghost use Rattle.ts_journal.specs.Content.{bytes_after};
     ghost use Rattle.ts_journal.specs.Record.{is_change, IsRecordOf};
 
     /// Prepares the record of a command with this reading of the clock. Returns `None` if the command is not a change.
@@ -53,7 +53,7 @@ impl Record {
     ) -> Result<Option<Record>, AllocError>
         ensures change { IfOk result (λ r. is_some r ≡ is_change (command_of command.now)) }
         ensures record { IfOk result
-            (λ r. IfSome r (λ record_. IsRecordOf reading (command_of command.now) (told record_))) }
+            (λ r. IfSome r (λ record_. IsRecordOf reading (command_of command.now) (bytes_after record_))) }
     {
         if let Command::Madd { triples } = command {
             let triples = Triples::take(alloc, triples, reading)?;
@@ -78,7 +78,7 @@ impl Record {
         addition: &SimpleAdd,
         reading: u64,
     ) -> Result<Record, AllocError>
-        ensures { IfOk result (λ record_. IsRecordOf reading (simple_add_of addition.now) (told record_)) }
+        ensures { IfOk result (λ record_. IsRecordOf reading (simple_add_of addition.now) (bytes_after record_)) }
     {
         let text = addition_text(alloc, addition, reading)?;
         Ok(Record {
@@ -89,7 +89,7 @@ impl Record {
     /// Returns the record, given the text of the command's reply. It is empty if nothing was accepted. Allocates
     /// nothing.
     pub fn bytes(&mut self, reply: &[u8]) -> &[u8]
-        ensures { result.now ≡ told self.old reply.now }
+        ensures { result.now ≡ bytes_after self.old reply.now }
     {
         if is_error(reply) {
             return &[];
