@@ -2,7 +2,7 @@
 use Rattle.std.proofs.Common.{◌≡◌, ℕ, List, [], ◌∷◌, ◌++◌, refl, ap, subst}
 use Rattle.std.specs.Prelude.{None, Some, Result, Ok, Err, IfOk, IfErr, filter}
 use Rattle.slab.specs.Slab as slab
-use Rattle.ts_spec.specs.Sample.{Point, between, outside}
+use Rattle.ts_spec.specs.Sample.{Point, put, between, outside}
 use Rattle.ts_spec.specs.Bucket.{starts}
 use Rattle.ts_spec.specs.Key.{Key}
 use Rattle.ts_spec.specs.StoredUpdates.{bucket_row, recounted_bucket, rows_of, loses}
@@ -12,7 +12,8 @@ use Rattle.ts_rules.specs.declared.plan.RulePlan.{RulePlan}
 use Rattle.ts_rules.specs.declared.plan.RuleFault.{RuleFault}
 use Rattle.ts_rules.specs.declared.plan.RuleFault.TheVariants.{Full, Memory}
 use Rattle.ts_rules.specs.Rules.{stored_rule_for, IsChanged}
-use Rattle.ts_rules.specs.SharedBucket.{SharedBucketState, IsShared}
+use Rattle.ts_rules.specs.declared.shared_bucket.SharedBuckets.{SharedBuckets}
+use Rattle.ts_rules.specs.SharedBuckets.{AreShared}
 use Rattle.ts_rules.specs.Plans.{IsPlanned}
 use Rattle.ts_rules.specs.PlansOfDeletions.{IsPlanOfDeletion}
 use Rattle.ts_db.specs.declared.node.Node.{Node}
@@ -36,9 +37,9 @@ deletion-named limit k r source from to dest result planned =
     planned
 
 -- what the first rule has of others
-pub shared-first : (work : SourceChange) (source : History) (t : SharedBucketState) → ((ps : List Point) (p : Point) → IsShared ps p t) → IsSharedOf work source t
-shared-first (Write p) source t h = h (list_of source) p
-shared-first (Delete from to) source t h = tt
+pub shared-first : (work : SourceChange) (source : History) (t : SharedBuckets) → ((ps : List Point) → AreShared ps t) → IsSharedOf work source t
+shared-first (Write p) source t h = (h (put p (list_of source))).0
+shared-first (Delete from to) source t h = h (outside from to (list_of source))
 
 module _ (limit : ℕ) (nodes : Nodes) (work : SourceChange) (source : History) (r : Rule) (n : Node) (is : slab.get nodes r.dest.0 ≡ Some n) where
   -- what is planned for a rule, by any key of the destination

@@ -14,7 +14,9 @@ use Rattle.ts_rules.specs.declared.plan.RuleFault.TheVariants as rule_fault
 use Rattle.ts_rules.specs.declared.plan.RuleFault.TheVariants.{Full}
 use Rattle.ts_rules.specs.Rules.{stored_rule_for, IsChanged, TakesAppended}
 use Rattle.ts_rules.specs.Writes.{rule_after}
-use Rattle.ts_rules.specs.SharedBucket.{SharedBucketState, IsShared}
+use Rattle.ts_rules.specs.declared.shared_bucket.SharedBuckets.{SharedBuckets}
+use Rattle.ts_rules.specs.SharedBucket.{IsShared}
+use Rattle.ts_rules.specs.SharedBuckets.{AreShared}
 use Rattle.ts_rules.specs.Deletions.{rule_left}
 use Rattle.ts_rules.specs.Plans.{IsUpdatedBy}
 use Rattle.ts_db.specs.declared.fault.DbFault.{DbFault}
@@ -55,10 +57,10 @@ abbrev pub AllHaveCountCapacity : SourceChange → (source : History) → List R
 AllHaveCountCapacity work source [] = ⊤
 AllHaveCountCapacity work source (r ∷ rs) = HasCountCapacity work source r × AllHaveCountCapacity work source rs
 
--- for a write: the cached bucket that rules share counts the samples of the source; for a deletion: no condition
-abbrev pub IsSharedOf : SourceChange → (source : History) → SharedBucketState → Type 0
-IsSharedOf (Write p) source t = IsShared (list_of source) p t
-IsSharedOf (Delete from to) source t = ⊤
+-- what rules share counts the samples that the source has after the change: for a write one bucket, for a deletion two
+abbrev pub IsSharedOf : SourceChange → (source : History) → SharedBuckets → Type 0
+IsSharedOf (Write p) source t = IsShared (put p (list_of source)) t.first
+IsSharedOf (Delete from to) source t = AreShared (outside from to (list_of source)) t
 
 -- ---- plans
 

@@ -18,7 +18,9 @@ use crate::fault::DbFault;
 use crate::plan_fault::full_at;
 use crate::store::{Planned, Store};
 use std::sync::ledger::Ledger;
-use ts_rules::{Rule, RuleFault, RulePlan, SharedBucket, plan_delete, plan_put_shared};
+use ts_rules::{
+    Rule, RuleFault, RulePlan, SharedBuckets, SourceDeletion, plan_delete_shared, plan_put_shared,
+};
 use ts_sample::{Sample, Steps};
 use ts_series::Series;
 
@@ -64,7 +66,7 @@ impl Store {
             Ok(planned) => planned,
             Err(_) => return Err(self.plan_fault(rules, source, work, steps)),
         };
-        let mut shared = SharedBucket::new();
+        let mut shared = SharedBuckets::new();
         for rule in rules {
             match self.plan_next(rule, source, *work, &mut shared, steps) {
                 Ok(plan) => planned.push(plan),
@@ -106,17 +108,17 @@ impl Store {
         ensures easy { IsEasyAt self.now.limits.samples work source.now rule.now
             (slab.get self.now.nodes rule.now.dest.0) → steps.new ≡ steps.old }
     {
-        let mut shared = SharedBucket::new();
+        let mut shared = SharedBuckets::new();
         self.plan_next(rule, source, work, &mut shared, steps)
     }
 
-    // Plans for one rule after another. `shared` caches the bucket that the rules have in common.
+    // Plans for one rule after another. `shared` caches the buckets that the rules have in common.
     fn plan_next<L: Ledger>(
         &self,
         rule: &Rule,
         source: &Series,
         work: SourceChange,
-        shared: &mut SharedBucket,
+        shared: &mut SharedBuckets,
         steps: &mut Steps<L>,
     ) -> Result<RulePlan, RuleFault>
         requires store { IsInOrder self.now }
@@ -152,7 +154,7 @@ impl Store {
         rule: &Rule,
         source: &Series,
         dest: &Series,
-        shared: &mut SharedBucket,
+        shared: &mut SharedBuckets,
         steps: &mut Steps<L>,
     ) -> Result<RulePlan, RuleFault>
         requires room { HasCountCapacity work source.now rule.now }
@@ -172,17 +174,16 @@ impl Store {
                 &wrote,
                 dest,
                 self.limits.samples,
-                shared,
+                &mut shared.first,
                 steps,
             ),
-            SourceChange::Delete(from, to) => plan_delete(
+            SourceChange::Delete(from, to) => plan_delete_shared(
                 self.alloc,
                 rule,
-                source,
-                from,
-                to,
+                &SourceDeletion { source, from, to },
                 dest,
                 self.limits.samples,
+                shared,
                 steps,
             ),
         }

@@ -14,6 +14,8 @@ use Rattle.ts_series.specs.History.{History, IsKept, list_of}
 use Rattle.ts_rules.specs.declared.rule.Rule.{Rule}
 use Rattle.ts_rules.specs.declared.plan.RulePlan.{RulePlan}
 use Rattle.ts_rules.specs.declared.plan.RuleFault.{RuleFault}
+use Rattle.ts_rules.specs.declared.shared_bucket.SharedBuckets.{SharedBuckets}
+use Rattle.ts_rules.specs.SharedBuckets.{AreShared}
 use Rattle.ts_rules.specs.Rules.{stored_rule_for, IsChanged}
 use Rattle.ts_rules.specs.Plans.{IsUpdatedBy, IsPlanned}
 use Rattle.ts_rules.specs.PlansOfDeletions.{IsPlanOfDeletion}
@@ -105,3 +107,10 @@ module _ (source : History) (from to : ℕ) (a : IsAscending (list_of source)) (
   plan-clamped r dest limit end result e x =
       subst (λ (ps : List Point × List Point). IsPlanned limit (deleted_rule ps.0 ps.1) (loses ps.0 (stored_rule_for [] r)) (deleted_rows ps.0 ps.1 dest.born (stored_rule_for [] r)) r dest result)
       (λ i. (gone-clamped i, left-clamped i)) (subst (λ n. IsPlanOfDeletion limit r source from n dest result) e x)
+
+  -- What rules share of the buckets up to the greatest time is what they share of them past it, and the other way round.
+  pub shared-clamped : (end : ℕ) (t : SharedBuckets) → end ≡ min to MAX_TIME → AreShared (left_of source from end) t → AreShared (left_of source from to) t
+  shared-clamped end t e x = subst (λ (ps : List Point). AreShared ps t) (ap (left_of source from) e ∙ left-clamped) x
+
+  pub clamped-shared : (end : ℕ) (t : SharedBuckets) → end ≡ min to MAX_TIME → AreShared (left_of source from to) t → AreShared (left_of source from end) t
+  clamped-shared end t e x = subst (λ (ps : List Point). AreShared ps t) (sym (ap (left_of source from) e ∙ left-clamped)) x

@@ -77,7 +77,7 @@ module _ (g : Grid) (p : Point) (time first last : ℕ) (ps : List Point) (grid 
 
         -- Where it counts all of them, this is told to each rule that does so.
         pub tells-written : ((qs : List Point) (n : ℕ) → n ≤ (visited with_next fresh qs).least → filter (λ q. nat_le n q.made) (put p qs) ≡ put p qs) →
-            (least : ℕ) → least ≡ v.least → made ≤ least → IsShared ps p (record { first = first; last = last; running = running; least = least })
+            (least : ℕ) → least ≡ v.least → made ≤ least → IsShared (put p ps) (record { first = first; last = last; running = running; least = least })
         tells-written all least x counts_all n less =
             h ∙ ap whole is ∙ told bucket ascends ∙ ap summary (each made counts_all) ∙ sym (ap summary (each n less)) ∙ ap (counted_by n) (sym between-is)
           where

@@ -18,8 +18,8 @@ count-visited c (p ∷ ps) =
     go true = omega arith
     go false = omega arith
 
-pub visited-append : (c : Counting) (ps qs : List Point) → visited counted_one (visited counted_one c ps) qs ≡ visited counted_one c (ps ++ qs)
-visited-append c ps qs = sym (fold-append counted_one c ps qs)
+pub visited-append : {V : Type 0} (step : V → Point → V) (v : V) (ps qs : List Point) → visited step (visited step v ps) qs ≡ visited step v (ps ++ qs)
+visited-append step v ps qs = sym (fold-append step v ps qs)
 
 -- There is room for as many more as with those before are no more than 10^14.
 pub room-after : (c v : Counting) (made : ℕ) (ps : List Point) (n : ℕ) → c ≡ record { made = made; running = nothing } → v ≡ visited counted_one c ps → length ps + n ≤ 10 ^ 14 → n ≤ 10 ^ 14 - v.running.count

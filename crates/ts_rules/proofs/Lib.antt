@@ -8,7 +8,7 @@ pub mod Putting
 pub mod Least
 pub mod Shared
 pub mod CountWritten
-pub mod EndsLeft
+pub mod BucketLeft
 pub mod LostBucketList
 pub mod Written
 pub mod EasyWrites

@@ -1,13 +1,13 @@
 -- The number of samples that pass one of several exclusive tests.
-use Rattle.std.proofs.Common.{◌≡◌, ℕ, ◌+◌, ◌<◌, ◌≤◌, Bool, true, false, ◌&&◌, nat_lt, nat_le, List, [], ◌∷◌, length, refl, ap, ◌∙◌, arith}
-use Rattle.ts_spec.specs.Sample.{Point, at_times, between, is_within}
-use Rattle.ts_spec.specs.Bucket.{Grid, start}
-use Rattle.ts_spec.proofs.Buckets.{start-order, start-start}
-use Rattle.ts_bucket.specs.Grid.{IsGrid, IsLastOf}
+use Rattle.std.proofs.Common.{◌≡◌, ◌≢◌, ℕ, ◌+◌, ◌≤◌, Bool, true, false, not, ◌&&◌, ◌==◌, List, [], ◌∷◌, length, refl, sym, ap, ◌∙◌, arith, eqb-true}
+use Rattle.std.proofs.lemmas.Bool.{false≢true, and_parts}
+use Rattle.ts_spec.specs.Sample.{Point, at_times, between, outside, is_within}
+use Rattle.ts_spec.specs.Bucket.{Grid, start, members}
+use Rattle.ts_spec.proofs.Buckets.{start-order}
+use Rattle.ts_sample.proofs.Between.{times-both}
 use Rattle.ts_series.proofs.Counting.{one_if, length-cons_if, times-fewer}
-use Rattle.ts_rules.specs.Spans.{from_until}
 use Rattle.ts_rules.specs.Shares.{in_buckets}
-use Rattle.ts_rules.proofs.Times.{within, within-from, within-to, span-from, span-end}
+use Rattle.ts_rules.proofs.Times.{not-true, within, within-from, within-to}
 
 -- ---- tests
 
@@ -40,24 +40,50 @@ three a b c d (p ∷ ps) h =
 
 -- ---- buckets
 
-module _ (g : Grid) (grid : IsGrid g) where
-  -- The samples of the buckets that meet an interval: those before it, those in it, and those past it.
-  pub around-span : (from to first last : ℕ) (ps : List Point) → from ≤ to → first ≡ start g from → IsLastOf g to last →
-      length (from_until first from ps) + length (between from to ps) + length (between (to + 1) last ps) ≤ length (in_buckets g from to ps)
-  around-span from to first last ps order begins of =
-      three (λ u. nat_le first u && nat_lt u from) (is_within from to) (is_within (to + 1) last) (λ u. is_within (start g from) (start g to) (start g u)) ps (record {
-        first = λ u e. (let low : first ≤ u = span-from first from u e in let up : u < from = span-end first from u e in
-            let one : start g first ≤ start g u = start-order g first u low in let two : start g u ≤ start g to = start-order g u to (omega arith) in
-            let same : start g first ≡ start g from = ap (start g) begins ∙ start-start g from grid.some in
-            within (start g from) (start g to) (start g u) (omega (arith, one, same)) two);
+-- what a deletion leaves in the bucket that starts at b, by the times of the samples before it
+members-outside : (g : Grid) (b from to : ℕ) (ps : List Point) → members g b (outside from to ps) ≡ at_times (λ u. not (is_within from to u) && (start g u == b)) ps
+members-outside g b from to ps = times-both (λ u. start g u == b) (λ u. not (is_within from to u)) ps
+
+module _ (g : Grid) (from to : ℕ) (ps : List Point) (order : from ≤ to) where
+  outer : (b u : ℕ) → (not (is_within from to u) && (start g u == b)) ≡ true → (is_within from to u ≡ false) × (start g u ≡ b)
+  outer b u e = let x = and_parts (not (is_within from to u)) (start g u == b) e in (not-true (is_within from to u) x.0, eqb-true (start g u) b x.1)
+
+  starts-rise : start g from ≤ start g to
+  starts-rise = start-order g from to order
+
+  -- The samples of the buckets that meet an interval: those in it, and those that a deletion leaves in the first and in
+  -- the last bucket.
+  pub around-two : start g from ≢ start g to →
+      length (members g (start g from) (outside from to ps)) + length (between from to ps) + length (members g (start g to) (outside from to ps)) ≤ length (in_buckets g from to ps)
+  around-two other =
+      let sum = three (left (start g from)) (is_within from to) (left (start g to)) (λ u. is_within (start g from) (start g to) (start g u)) ps (record {
+        first = λ u e. (let same : start g u ≡ start g from = (outer (start g from) u e).1 in within (start g from) (start g to) (start g u) (omega (arith, same)) (omega (arith, same, starts-rise)));
+        second = inner;
+        third = λ u e. (let same : start g u ≡ start g to = (outer (start g to) u e).1 in within (start g from) (start g to) (start g u) (omega (arith, same, starts-rise)) (omega (arith, same)));
+        first_second = λ u e f. false≢true (sym (outer (start g from) u e).0 ∙ f);
+        first_third = λ u e f. other (sym (outer (start g from) u e).1 ∙ (outer (start g to) u f).1);
+        second_third = λ u e f. false≢true (sym (outer (start g to) u f).0 ∙ e);
+      }) in
+      omega (arith, sum, ap length (members-outside g (start g from) from to ps), ap length (members-outside g (start g to) from to ps))
+    where
+      left : (b u : ℕ) → Bool
+      left b u = not (is_within from to u) && (start g u == b)
+
+      inner : (u : ℕ) → is_within from to u ≡ true → is_within (start g from) (start g to) (start g u) ≡ true
+      inner u e = within (start g from) (start g to) (start g u) (start-order g from u (within-from from to u e)) (start-order g u to (within-to from to u e))
+
+  -- The same with what is left in the first bucket alone.
+  pub around-one : length (members g (start g from) (outside from to ps)) + length (between from to ps) ≤ length (in_buckets g from to ps)
+  around-one =
+      let sum = three (λ u. not (is_within from to u) && (start g u == start g from)) (is_within from to) (λ u. false) (λ u. is_within (start g from) (start g to) (start g u)) ps (record {
+        first = λ u e. (let same : start g u ≡ start g from = (outer (start g from) u e).1 in within (start g from) (start g to) (start g u) (omega (arith, same)) (omega (arith, same, starts-rise)));
         second = λ u e. within (start g from) (start g to) (start g u) (start-order g from u (within-from from to u e)) (start-order g u to (within-to from to u e));
-        third = λ u e. (let low : to + 1 ≤ u = within-from (to + 1) last u e in let up : u ≤ last = within-to (to + 1) last u e in
-            let two : start g u ≤ start g last = start-order g u last up in let same : start g last ≡ start g to = of.same in
-            within (start g from) (start g to) (start g u) (start-order g from u (omega arith)) (omega (arith, two, same)));
-        first_second = λ u e f. (let up : u < from = span-end first from u e in let low : from ≤ u = within-from from to u f in absurd (omega arith));
-        first_third = λ u e f. (let up : u < from = span-end first from u e in let low : to + 1 ≤ u = within-from (to + 1) last u f in absurd (omega arith));
-        second_third = λ u e f. (let up : u ≤ to = within-to from to u e in let low : to + 1 ≤ u = within-from (to + 1) last u f in absurd (omega arith));
-      })
+        third = λ u e. absurd (false≢true e);
+        first_second = λ u e f. false≢true (sym (outer (start g from) u e).0 ∙ f);
+        first_third = λ u e f. false≢true f;
+        second_third = λ u e f. false≢true f;
+      }) in
+      omega (arith, sum, ap length (members-outside g (start g from) from to ps))
 
 -- Up to an earlier time there are no more of them.
 pub in_buckets-fewer : (g : Grid) (from upto to : ℕ) (ps : List Point) → upto ≤ to → length (in_buckets g from upto ps) ≤ length (in_buckets g from to ps)

@@ -14,3 +14,6 @@ pub mod FaultNames
 pub mod IntervalReading
 pub mod CountedWith
 pub mod SharedBucket
+pub mod SharedBuckets
+pub mod CountedLeft
+pub mod SourceDeletions

@@ -20,8 +20,8 @@ use ts_agg::Running;
 use ts_sample::{Sample, SampleCollector, Steps, Visit};
 use ts_series::{Series, SeriesPlan};
 
-// A deletion of the samples from `from` to `to`, both inclusive, on the source of a rule. `source` is still as it was
-// before.
+// A deletion of the samples from `from` to `to`, both inclusive, on the source of a rule, with what was found out about
+// it for the rule. `source` is still as it was before.
 #[derive(Clone, Copy)]
 pub(crate) struct Deletion<'a> {
     pub(crate) rule: &'a Rule,

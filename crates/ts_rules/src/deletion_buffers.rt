@@ -7,9 +7,11 @@ ghost use Rattle.ts_spec.specs.StoredUpdates.{lies_in};
 ghost use Rattle.ts_sample.specs.Steps.{Takes};
 ghost use Rattle.ts_series.specs.History.{list_of, reach};
 ghost use Rattle.ts_rules.specs.LostBuckets.{is_last, with_bucket, HasStartCapacity};
+ghost use Rattle.ts_rules.specs.SourceDeletions.{gone_by};
 ghost use Rattle.ts_rules.specs.DeletionBuffers.{HasCapacity, count_touched};
 
 use crate::rule::Rule;
+use crate::source_deletion::SourceDeletion;
 use std::alloc::{AllocError, Global};
 use std::marker::Model;
 use std::sync::ledger::Ledger;
@@ -120,24 +122,23 @@ pub(crate) struct DeletionBuffers {
 }
 
 impl DeletionBuffers {
-    // Buffers for a deletion from `from` to `to`, both inclusive. If the first bucket is not closed, the destination
-    // does not change and needs no buffer.
+    // Buffers for a deletion. If the first bucket is not closed, the destination does not change and needs no buffer.
     pub(crate) fn new(
         alloc: Global,
         rule: &Rule,
-        source: &Series,
-        from: u64,
-        to: u64,
+        deletion: &SourceDeletion<'_>,
         dest: &Series,
     ) -> Result<DeletionBuffers, AllocError>
-        requires from { from ≤ MAX_TIME }
-        requires to { to ≤ MAX_TIME }
+        requires from { deletion.now.from ≤ MAX_TIME }
+        requires to { deletion.now.to ≤ MAX_TIME }
         requires few { length (list_of dest.now) < 2 ^ 32 }
-        ensures lost { IfOk result
-            (λ r. HasStartCapacity rule.now.grid (length (between from to (list_of source.now))) r.lost) }
-        ensures shown { IfOk result (λ r. HasCapacity (count_touched rule.now from to dest.now) r.shown) }
-        ensures rows { IfOk result (λ r. HasCapacity (count_touched rule.now from to dest.now + 2) r.rows) }
+        ensures lost { IfOk result (λ r. HasStartCapacity rule.now.grid (length (gone_by deletion.now)) r.lost) }
+        ensures shown { IfOk result
+            (λ r. HasCapacity (count_touched rule.now deletion.now.from deletion.now.to dest.now) r.shown) }
+        ensures rows { IfOk result
+            (λ r. HasCapacity (count_touched rule.now deletion.now.from deletion.now.to dest.now + 2) r.rows) }
     {
+        let SourceDeletion { source, from, to } = *deletion;
         let shown = touched_upper_bound(rule, from, to, dest);
         Ok(DeletionBuffers {
             lost: LostBuckets::with_reserved(alloc, rule.grid, source.room_for(from, to))?,

@@ -1,19 +1,23 @@
 // The destination's rows for the first and the last bucket of a deletion. Allocates nothing.
 ghost use Rattle.std.specs.Prelude.{◌≡◌, ◌≤◌, ◌+◌, ◌*◌, ◌&&◌, ◌==◌, nat_le, [], length, if◌then◌else◌};
-ghost use Rattle.ts_spec.specs.Sample.{MAX_TIME, IsAscending, at_times, between};
+ghost use Rattle.ts_spec.specs.Sample.{MAX_TIME, IsAscending, at_times};
 ghost use Rattle.ts_spec.specs.State.{edge_of};
 ghost use Rattle.ts_spec.specs.Rules.{is_past};
 ghost use Rattle.ts_spec.specs.StoredUpdates.{bucket_row, high_after_rows};
 ghost use Rattle.ts_series.specs.History.{list_of, reach};
 ghost use Rattle.ts_rules.specs.Rules.{one_of};
-ghost use Rattle.ts_rules.specs.Deletions.{gone_of, rows_left};
+ghost use Rattle.ts_rules.specs.Deletions.{rows_left};
+ghost use Rattle.ts_rules.specs.SourceDeletions.{gone_by, left_by};
 ghost use Rattle.ts_rules.specs.Shares.{in_buckets};
+ghost use Rattle.ts_rules.specs.SharedBuckets.{AreShared};
 ghost use Rattle.ts_rules.specs.Ends.{rows_at, is_first_in};
 
-use crate::count::ends_left;
+use crate::ends_left::ends_left;
 use crate::interval_cursor::IntervalCursor;
 use crate::open_bucket::row;
 use crate::rule::Rule;
+use crate::shared_bucket::SharedBuckets;
+use crate::source_deletion::SourceDeletion;
 use std::sync::ledger::Ledger;
 use ts_agg::Running;
 use ts_sample::{Sample, Steps};
@@ -27,30 +31,33 @@ pub(crate) struct Ends {
 }
 
 impl Ends {
-    // The rows after a deletion from `from` to `to`, both inclusive. `gone` are the deleted samples, and `born` is
-    // the destination's rule count.
+    // The rows after a deletion. `gone` are the deleted samples, and `born` is the destination's rule count.
     pub(crate) fn new<L: Ledger>(
         rule: &Rule,
-        source: &Series,
-        from: u64,
-        to: u64,
+        deletion: &SourceDeletion<'_>,
         gone: &IntervalCursor<'_>,
         born: u32,
+        shared: &mut SharedBuckets,
         steps: &mut Steps<L>,
     ) -> Ends
-        requires order { from ≤ to }
-        requires time { to ≤ MAX_TIME }
-        requires gone { gone.now ≡ gone_of source.now from to }
-        ensures rows { rows_at result ≡ rows_left rule.now source.now from to born }
+        requires order { deletion.now.from ≤ deletion.now.to }
+        requires time { deletion.now.to ≤ MAX_TIME }
+        requires gone { gone.now ≡ gone_by deletion.now }
+        requires shared { AreShared (left_by deletion.now) shared.old }
+        ensures rows { rows_at result
+            ≡ rows_left rule.now deletion.now.source.now deletion.now.from deletion.now.to born }
+        ensures shared { AreShared (left_by deletion.now) shared.new }
         ensures counted { steps.old ≤ steps.new }
-        ensures bounded { steps.new + length (between from to (list_of source.now))
-            ≤ steps.old + length (in_buckets rule.now.grid from to (list_of source.now)) + 5 * reach source.now }
+        ensures bounded { steps.new + length (gone_by deletion.now)
+            ≤ steps.old + 5 * reach deletion.now.source.now
+            + length (in_buckets rule.now.grid deletion.now.from deletion.now.to (list_of deletion.now.source.now)) }
     {
+        let SourceDeletion { source, from, to } = *deletion;
         source.known();
         rule.grid.known();
         let first = rule.grid.start_of(from);
         let last = rule.grid.start_of(to);
-        let (early, late) = ends_left(rule, source, from, to, steps);
+        let (early, late) = ends_left(rule, deletion, shared, steps);
         let goes_early = is_head_in(rule, gone, first);
         let goes_late = source.has_between(last.max(from), to, steps);
         Ends {

@@ -7,11 +7,15 @@ ghost use Rattle.ts_sample.specs.Steps.{Takes};
 ghost use Rattle.ts_series.specs.History.{list_of};
 ghost use Rattle.ts_rules.specs.Plans.{list_after_update};
 ghost use Rattle.ts_rules.specs.Deletions.{is_lost, rows_left};
+ghost use Rattle.ts_rules.specs.SourceDeletions.{left_by};
 ghost use Rattle.ts_rules.specs.Shares.{deletion_share};
+ghost use Rattle.ts_rules.specs.SharedBuckets.{AreShared};
 
 use crate::end_rows::Ends;
 use crate::interval_cursor::IntervalCursor;
 use crate::rule::Rule;
+use crate::shared_bucket::SharedBuckets;
+use crate::source_deletion::SourceDeletion;
 use std::sync::ledger::Ledger;
 use ts_sample::Steps;
 use ts_series::Series;
@@ -54,30 +58,32 @@ fn count_at(rule: &Rule, start: u64, time: u64) -> usize
     usize::from(start == time && rule.is_closed(start))
 }
 
-// Whether the destination would have more than `limit` samples after the deletion of the samples from `from` to `to`,
-// both inclusive.
+// Whether the destination would have more than `limit` samples after a deletion.
 pub(crate) fn is_full<L: Ledger>(
     rule: &Rule,
-    source: &Series,
-    from: u64,
-    to: u64,
+    deletion: &SourceDeletion<'_>,
     dest: &Series,
     limit: u32,
+    shared: &mut SharedBuckets,
     steps: &mut Steps<L>,
 ) -> bool
-    requires order { from ≤ to }
-    requires time { to ≤ MAX_TIME }
+    requires order { deletion.now.from ≤ deletion.now.to }
+    requires time { deletion.now.to ≤ MAX_TIME }
     requires fits { length (list_of dest.now) ≤ limit }
+    requires shared { AreShared (left_by deletion.now) shared.old }
     ensures full { result ≡ nat_lt limit
-        (length (list_after_update (is_lost rule.now source.now from to)
-        (rows_left rule.now source.now from to dest.now.born) dest.now)) }
-    ensures steps { Takes steps.old steps.new (deletion_share rule.now source.now from to dest.now) }
+        (length (list_after_update (is_lost rule.now deletion.now.source.now deletion.now.from deletion.now.to)
+        (rows_left rule.now deletion.now.source.now deletion.now.from deletion.now.to dest.now.born) dest.now)) }
+    ensures shared { AreShared (left_by deletion.now) shared.new }
+    ensures steps { Takes steps.old steps.new
+        (deletion_share rule.now deletion.now.source.now deletion.now.from deletion.now.to dest.now) }
 {
+    let SourceDeletion { source, from, to } = *deletion;
     source.known();
     dest.known();
     rule.grid.known();
     let gone = IntervalCursor::new(source, from, to, steps);
-    let ends = Ends::new(rule, source, from, to, &gone, dest.born(), steps);
+    let ends = Ends::new(rule, deletion, &gone, dest.born(), shared, steps);
     let edge = ends.edge(dest);
     let first = rule.grid.start_of(from).max(edge);
     let last = rule.grid.start_of(to);

@@ -1,23 +1,26 @@
 // The public functions that plan a change of a source for a rule.
 ghost use Rattle.std.specs.Prelude.{◌≡◌, ◌≤◌, ◌+◌, None, length};
-ghost use Rattle.ts_spec.specs.Sample.{MAX_TIME, between};
+ghost use Rattle.ts_spec.specs.Sample.{MAX_TIME, put};
 ghost use Rattle.ts_sample.specs.Steps.{Takes};
 ghost use Rattle.ts_series.specs.History.{list_of};
 ghost use Rattle.ts_rules.specs.Rules.{TakesAppended};
 ghost use Rattle.ts_rules.specs.PlansOfWrites.{IsPlanOfWrite};
 ghost use Rattle.ts_rules.specs.PlansOfDeletions.{IsPlanOfDeletion};
+ghost use Rattle.ts_rules.specs.SourceDeletions.{gone_by, left_by};
 ghost use Rattle.ts_rules.specs.LostBuckets.{HasStartCapacity};
 ghost use Rattle.ts_rules.specs.DeletionBuffers.{HasCapacity, count_touched};
 ghost use Rattle.ts_rules.specs.SharedBucket.{IsShared};
+ghost use Rattle.ts_rules.specs.SharedBuckets.{AreShared};
 ghost use Rattle.ts_rules.specs.Shares.{write_share, deletion_share, IsEasyWrite};
 
-use crate::count::ends_left;
 use crate::deletion::Deletion;
 use crate::deletion_buffers::DeletionBuffers;
+use crate::ends_left::ends_left;
 use crate::fullness::is_full;
 use crate::plan::{RuleFault, RulePlan, with_row};
 use crate::rule::Rule;
-use crate::shared_bucket::SharedBucket;
+use crate::shared_bucket::{SharedBucket, SharedBuckets};
+use crate::source_deletion::SourceDeletion;
 use crate::write::written;
 use std::alloc::Global;
 use std::sync::ledger::Ledger;
@@ -57,9 +60,9 @@ pub fn plan_put_shared<L: Ledger>(
 ) -> Result<RulePlan, RuleFault>
     requires append { TakesAppended rule.now source.now wrote.now }
     requires fits { length (list_of dest.now) ≤ limit }
-    requires shared { IsShared (list_of source.now) wrote.now shared.old }
+    requires shared { IsShared (put wrote.now (list_of source.now)) shared.old }
     ensures planned { IsPlanOfWrite limit rule.now source.now wrote.now dest.now result }
-    ensures shared { IsShared (list_of source.now) wrote.now shared.new }
+    ensures shared { IsShared (put wrote.now (list_of source.now)) shared.new }
     ensures steps { Takes steps.old steps.new (write_share rule.now source.now wrote.now dest.now) }
     ensures easy { IsEasyWrite limit rule.now source.now wrote.now dest.now → steps.new ≡ steps.old }
 {
@@ -85,16 +88,41 @@ pub fn plan_delete<L: Ledger>(
     ensures planned { IsPlanOfDeletion limit rule.now source.now from to dest.now result }
     ensures steps { Takes steps.old steps.new (deletion_share rule.now source.now from to dest.now) }
 {
-    source.known();
+    let deletion = SourceDeletion { source, from, to };
+    let mut shared = SharedBuckets::new();
+    plan_delete_shared(alloc, rule, &deletion, dest, limit, &mut shared, steps)
+}
+
+/// Like `plan_delete`, for the rules of one source in turn. `shared` carries the end buckets that one rule counted to
+/// the next.
+pub fn plan_delete_shared<L: Ledger>(
+    alloc: Global,
+    rule: &Rule,
+    deletion: &SourceDeletion<'_>,
+    dest: &Series,
+    limit: u32,
+    shared: &mut SharedBuckets,
+    steps: &mut Steps<L>,
+) -> Result<RulePlan, RuleFault>
+    requires fits { length (list_of dest.now) ≤ limit }
+    requires shared { AreShared (left_by deletion.now) shared.old }
+    ensures planned { IsPlanOfDeletion limit rule.now deletion.now.source.now deletion.now.from deletion.now.to
+        dest.now result }
+    ensures shared { AreShared (left_by deletion.now) shared.new }
+    ensures steps { Takes steps.old steps.new
+        (deletion_share rule.now deletion.now.source.now deletion.now.from deletion.now.to dest.now) }
+{
+    deletion.source.known();
     dest.known();
-    let to = to.min(MAX_TIME);
-    if to < from {
+    let to = deletion.to.min(MAX_TIME);
+    if to < deletion.from {
         return Ok(unchanged(rule));
     }
-    match DeletionBuffers::new(alloc, rule, source, from, to, dest) {
-        Ok(room) => plan_with_buffers(room, rule, source, from, to, dest, limit, steps),
+    let within = SourceDeletion { to, ..*deletion };
+    match DeletionBuffers::new(alloc, rule, &within, dest) {
+        Ok(room) => plan_with_buffers(room, rule, &within, dest, limit, shared, steps),
         Err(fault) => {
-            if is_full(rule, source, from, to, dest, limit, steps) {
+            if is_full(rule, &within, dest, limit, shared, steps) {
                 return Err(RuleFault::Full);
             }
             Err(RuleFault::Memory(fault))
@@ -106,28 +134,32 @@ pub fn plan_delete<L: Ledger>(
 fn plan_with_buffers<L: Ledger>(
     room: DeletionBuffers,
     rule: &Rule,
-    source: &Series,
-    from: u64,
-    to: u64,
+    deletion: &SourceDeletion<'_>,
     dest: &Series,
     limit: u32,
+    shared: &mut SharedBuckets,
     steps: &mut Steps<L>,
 ) -> Result<RulePlan, RuleFault>
-    requires order { from ≤ to }
-    requires time { to ≤ MAX_TIME }
+    requires order { deletion.now.from ≤ deletion.now.to }
+    requires time { deletion.now.to ≤ MAX_TIME }
     requires fits { length (list_of dest.now) ≤ limit }
-    requires lost { HasStartCapacity rule.now.grid (length (between from to (list_of source.now))) room.lost }
-    requires shown { HasCapacity (count_touched rule.now from to dest.now) room.shown }
-    requires rows { HasCapacity (count_touched rule.now from to dest.now + 2) room.rows }
-    ensures planned { IsPlanOfDeletion limit rule.now source.now from to dest.now result }
-    ensures steps { Takes steps.old steps.new (deletion_share rule.now source.now from to dest.now) }
+    requires lost { HasStartCapacity rule.now.grid (length (gone_by deletion.now)) room.lost }
+    requires shown { HasCapacity (count_touched rule.now deletion.now.from deletion.now.to dest.now) room.shown }
+    requires rows { HasCapacity (count_touched rule.now deletion.now.from deletion.now.to dest.now + 2) room.rows }
+    requires shared { AreShared (left_by deletion.now) shared.old }
+    ensures planned { IsPlanOfDeletion limit rule.now deletion.now.source.now deletion.now.from deletion.now.to
+        dest.now result }
+    ensures shared { AreShared (left_by deletion.now) shared.new }
+    ensures steps { Takes steps.old steps.new
+        (deletion_share rule.now deletion.now.source.now deletion.now.from deletion.now.to dest.now) }
 {
     dest.known();
+    let SourceDeletion { source, from, to } = *deletion;
     let lost = room.lost.starts(source, from, to, steps);
     if lost.is_empty() {
         return Ok(unchanged(rule));
     }
-    let (first, last) = ends_left(rule, source, from, to, steps);
+    let (first, last) = ends_left(rule, deletion, shared, steps);
     let deletion = Deletion {
         rule,
         source,

@@ -32,10 +32,10 @@ pub(crate) fn written<L: Ledger>(
     steps: &mut Steps<L>,
 ) -> (Rule, Option<Sample>)
     requires append { TakesAppended rule.now source.now wrote.now }
-    requires shared { IsShared (list_of source.now) wrote.now shared.old }
+    requires shared { IsShared (put wrote.now (list_of source.now)) shared.old }
     ensures rule { IsChanged (rule_after source.now wrote.now) rule.now result.0 }
     ensures row { one_of result.1 ≡ row_for_dest source.now wrote.now born rule.now }
-    ensures shared { IsShared (list_of source.now) wrote.now shared.new }
+    ensures shared { IsShared (put wrote.now (list_of source.now)) shared.new }
     ensures steps { Takes steps.old steps.new (source_share rule.now source.now wrote.now.time) }
     ensures easy { is_append wrote.now.time source.now.high ≡ true → IsNotClosed rule.now wrote.now.time
         → steps.new ≡ steps.old }
@@ -64,12 +64,12 @@ fn open_bucket_after<L: Ledger>(
     shared: &mut SharedBucket,
     steps: &mut Steps<L>,
 ) -> Running
-    requires shared { IsShared (list_of source.now) wrote.now shared.old }
+    requires shared { IsShared (put wrote.now (list_of source.now)) shared.old }
     requires room { is_append wrote.now.time source.now.high ≡ true → rule.now.running.count < 10 ^ 14 }
     ensures running { result ≡ (if is_append wrote.now.time source.now.high then push rule.now.running wrote.now
         else recounted_bucket (stored_rule_for [] rule.now) (start_of rule.now.grid wrote.now.time)
         (put wrote.now (list_of source.now))) }
-    ensures shared { IsShared (list_of source.now) wrote.now shared.new }
+    ensures shared { IsShared (put wrote.now (list_of source.now)) shared.new }
     ensures steps { Takes steps.old steps.new (source_share rule.now source.now wrote.now.time) }
     ensures easy { is_append wrote.now.time source.now.high ≡ true → steps.new ≡ steps.old }
 {

@@ -1,5 +1,5 @@
 use Rattle.std.proofs.Common.{length, ap, arith}
-use Rattle.ts_spec.specs.Sample.{Point}
+use Rattle.ts_spec.specs.Sample.{Point, put}
 use Rattle.ts_series.specs.History.{list_of}
 use Rattle.ts_rules.proofs.CountWritten.{bucket-is, room-bucket, room-held, found-written, counts-written, tells-written}
 use Rattle.ts_rules.proofs.count.count_written.Goals as goal
@@ -22,7 +22,7 @@ pub returns-in-Some-clause-running : goal.returns-in-Some-clause-running
 returns-in-Some-clause-running g c =
     found-written c.args.rule.now.grid c.args.wrote.now c.wrote.inside.time c.start_of-first.result c.last_of-last.result (list_of c.args.source.now)
     c.known-3.ensures c.known.ensures.kept.ascending c.known.ensures.times c.wrote.invariant (ap (λ (p : Point). p.time) c.wrote.view_is) c.start_of-first.ensures c.last_of-last.ensures
-    c.args.rule.now.made c.in-Some.running (c.find.ensures (list_of c.args.source.now) c.args.wrote.now c.requires.shared c.in-Some.running c.in-Some.is)
+    c.args.rule.now.made c.in-Some.running (c.find.ensures (put c.args.wrote.now (list_of c.args.source.now)) c.requires.shared c.in-Some.running c.in-Some.is)
 
 pub returns-clause-running : goal.returns-clause-running
 returns-clause-running g c =
@@ -32,7 +32,7 @@ returns-clause-running g c =
 
 pub returns-clause-shared : goal.returns-clause-shared
 returns-clause-shared g c =
-    c.keep.ensures (list_of c.args.source.now) c.args.wrote.now c.requires.shared
+    c.keep.ensures (put c.args.wrote.now (list_of c.args.source.now)) c.requires.shared
     (tells-written c.args.rule.now.grid c.args.wrote.now c.wrote.inside.time c.start_of-first.result c.last_of-last.result (list_of c.args.source.now)
     c.known-3.ensures c.known.ensures.kept.ascending c.known.ensures.times c.wrote.invariant (ap (λ (p : Point). p.time) c.wrote.view_is) c.start_of-first.ensures c.last_of-last.ensures
     c.args.rule.now.made c.new-counted.result c.new-counted.ensures.empty c.scan.new.visit c.scan.ensures.visited c.running-running.result c.running-running.ensures c.new-counted.ensures.told

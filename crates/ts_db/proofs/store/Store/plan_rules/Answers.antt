@@ -1,4 +1,4 @@
-use Rattle.std.proofs.Common.{◌≡◌, ◌+◌, ◌-◌, ℕ, length, List, [], ◌∷◌, ◌++◌, take, drop, sym, ◌∙◌, ap, subst, arith}
+use Rattle.std.proofs.Common.{rules, ◌≡◌, ◌+◌, ◌-◌, ℕ, length, List, [], ◌∷◌, ◌++◌, take, drop, sym, ◌∙◌, ap, subst, arith}
 use Rattle.std.proofs.lemmas.List.{take_more, drop_more, take_all, length-drop}
 use Rattle.std.specs.Prelude.{Option, None}
 use Rattle.ts_sample.specs.declared.sample.Id.{Id}
@@ -6,6 +6,7 @@ use Rattle.ts_rules.specs.declared.rule.Rule.{Rule}
 use Rattle.ts_db.specs.declared.store.DestinationPlan.{DestinationPlan}
 use Rattle.ts_db.specs.Store.{AreLive}
 use Rattle.ts_db.specs.Planning.{changed_by, gone_by, rows_by_change, AllHaveCountCapacity, AreChanged, AreDestinationsUpdatedBy, first_full, IsRulePlanFault, IsPlanFault, shares_of, AreEasyOf, HasCapacityForRules}
+use Rattle.ts_db.proofs.Planned.{shared-first}
 use Rattle.ts_db.proofs.Plans.{full-past, update_dest-more, changed-more}
 use Rattle.ts_db.proofs.store.Store.plan_rules.Goals as goal
 
@@ -15,6 +16,21 @@ plan_next-requires-clause-live g c =
     (drop_more c.args.rules.now c.loop-rule.rule-index c.rule-item.result c.loop-rule-test.true
     ∙ ap (λ (r : Rule). r ∷ drop (c.loop-rule.rule-index + 1) c.args.rules.now) (sym c.rule-item.is))
     c.loop-rule.invariant.live).0
+
+pub loop-rule-init : goal.loop-rule-init
+loop-rule-init g c = record {
+  changed = search rules;
+  update_dest = search rules;
+  fit = search rules;
+  live = c.requires.live;
+  shared = shared-first c.args.work.now c.args.source.now c.new-shared.result c.new-shared.ensures;
+  takes = c.requires.room;
+  many = search rules;
+  room = search rules;
+  counted = search rules;
+  steps = search rules;
+  easy = search rules;
+}
 
 pub loop-rule-preserved : goal.loop-rule-preserved
 loop-rule-preserved g c =

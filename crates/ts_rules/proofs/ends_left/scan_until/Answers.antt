@@ -2,7 +2,7 @@ use Rattle.std.proofs.Common.{sym, ap}
 use Rattle.ts_sample.specs.Visit.{visited}
 use Rattle.ts_series.specs.History.{list_of}
 use Rattle.ts_rules.proofs.Times.{until-none}
-use Rattle.ts_rules.proofs.count.scan_until.Goals as goal
+use Rattle.ts_rules.proofs.ends_left.scan_until.Goals as goal
 
 pub returns-else-from-end-clause-visited : goal.returns-else-from-end-clause-visited
 returns-else-from-end-clause-visited g c =
