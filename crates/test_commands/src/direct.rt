@@ -1,4 +1,4 @@
-// Calls `execute` for each request, without a session.
+// Calls the library without the program: `execute` for each request, and `Session::piece` for a stream in two pieces.
 ghost use Rattle.std.specs.Prelude.{◌≡◌, ◌<◌};
 ghost use Rattle.ts_engine.specs.Top.{AreUsable};
 
@@ -7,7 +7,8 @@ use crate::setting::Setting;
 use std::alloc::{AllocError, Global};
 use std::marker::Brand;
 use std::sync::ledger::{Blank, Ledger};
-use ts_engine::{Db, Limits, execute, read};
+use ts_engine::{Db, Go, Limits, Session, execute, read};
+use ts_io::MemClock;
 use ts_resp::{Next, Out, Reader, Word};
 use ts_sample::Steps;
 
@@ -68,4 +69,30 @@ fn add_reply<L: Ledger>(
     execute(db, command, READING, &mut room, steps);
     replies.extend_from_slice(room.bytes())?;
     Ok(true)
+}
+
+// Whether a session writes exactly the expected replies, and has executed as many requests, ends its stream inside the
+// same request and has the same last result as expected. The first piece has this many bytes.
+pub(crate) fn goes_on(
+    alloc: Global,
+    setting: &Setting,
+    own: &Talking,
+    expected: &str,
+    first: usize,
+) -> Result<bool, AllocError> {
+    let limits = setting.usable_limits();
+    let input = own.exchange.input.as_slice();
+    let (early, late) = input.split_at(first.min(input.len()));
+    let mut out = own.stream.ends(&own.exchange, 1, setting.takes())?.out;
+    let mut clock = MemClock::new(Vec::from_slice(alloc, &setting.readings)?);
+    let mut db = Db::new(alloc, limits);
+    let mut session = Session::new(alloc, limits.wire)?;
+    let go = match session.piece(&mut db, early, &mut clock, &mut out) {
+        Go::More => session.piece(&mut db, late, &mut clock, &mut out),
+        end => end,
+    };
+    let executed = session.executed();
+    let place = session.place();
+    let found = format!(in alloc; "executed {executed}, place {place:?}, {go:?}")?;
+    Ok(out.bytes() == own.exchange.out.as_slice() && found.as_str() == expected)
 }

@@ -33,8 +33,8 @@
 
 mod direct;
 mod expected;
+mod line;
 mod patterns;
-mod pieces;
 mod run;
 mod setting;
 mod stream;

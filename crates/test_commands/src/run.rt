@@ -1,5 +1,6 @@
 // Runs the program, or calls `pipe`, over devices in memory.
 use crate::expected::{End, idle_connection};
+use crate::patterns::Round;
 use crate::setting::Setting;
 use crate::stream::Stream;
 use crate::texts::Exchange;
@@ -13,6 +14,14 @@ use ts_io::{Ends, MemClock, MemHub, MemListener, MemSink, MemSource, Source, Std
 pub(crate) struct Talking<'a> {
     pub(crate) stream: &'a Stream,
     pub(crate) exchange: Exchange,
+}
+
+impl<'a> Talking<'a> {
+    // A stream, with what is sent and expected in this round.
+    pub(crate) fn in_round(stream: &'a Stream, round: Round) -> Result<Talking<'a>, AllocError> {
+        let exchange = stream.exchange(round)?;
+        Ok(Talking { stream, exchange })
+    }
 }
 
 // The devices of a run: its input and output, and the connections that come to its listener.

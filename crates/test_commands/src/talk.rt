@@ -1,8 +1,7 @@
 // A talk: requests with their expected replies, and the settings they run with.
-use crate::direct::is_executed;
+use crate::direct::{goes_on, is_executed};
 use crate::expected::End;
 use crate::patterns::Round;
-use crate::pieces::goes_on;
 use crate::run::{Talking, comes_to, is_answered, is_answered_in_two};
 use crate::setting::Setting;
 use crate::stream::Stream;
@@ -144,10 +143,10 @@ impl Talk {
 
     // The same, in one round, with each read size.
     fn is_answered_with(&self, round: Round) -> Result<bool, AllocError> {
-        let own = self.talking(&self.own, round)?;
+        let own = Talking::in_round(&self.own, round)?;
         let mut links = Vec::new(self.alloc);
         for link in &self.links {
-            links.push(self.talking(link, round)?)?;
+            links.push(Talking::in_round(link, round)?)?;
         }
         let pieces = if self.setting.pieces.is_empty() {
             &PIECES
@@ -195,11 +194,5 @@ impl Talk {
             Subject::Session(_) => Ok(true),
             _ => is_answered_in_two(self.alloc, &self.setting, own, &self.end, first),
         }
-    }
-
-    // A stream, with what is sent and expected in this round.
-    fn talking<'a>(&self, stream: &'a Stream, round: Round) -> Result<Talking<'a>, AllocError> {
-        let exchange = stream.exchange(round)?;
-        Ok(Talking { stream, exchange })
     }
 }

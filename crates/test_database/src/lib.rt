@@ -6,6 +6,8 @@ mod db;
 #[cfg(test)]
 mod restored;
 #[cfg(test)]
+mod restored_chunks;
+#[cfg(test)]
 mod restored_series;
 #[cfg(test)]
 mod rules;
