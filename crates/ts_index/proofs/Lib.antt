@@ -12,3 +12,5 @@ pub mod ChoiceLemmas
 pub mod OrderLemmas
 pub mod SelectLemmas
 pub mod DistinctLemmas
+pub mod ClearLemmas
+pub mod LosingLemmas

@@ -1,15 +1,16 @@
 -- Ids at their indexes in sorted lists.
-use Rattle.std.proofs.Common.{◌≡◌, ℕ, zero, suc, ◌<◌, ◌≤◌, List, [], ◌∷◌, ◌++◌, length, take, drop, get_or, refl, sym, ap, arith, eq-eqb, ne_eqb, lt-ltb, le-ltb}
+use Rattle.std.proofs.Common.{◌≡◌, ℕ, zero, suc, ◌||◌, ◌==◌, Bool, true, false, ◌<◌, ◌≤◌, List, [], ◌∷◌, ◌++◌, length, take, drop, get_or, refl, sym, ap, arith, eq-eqb, ne_eqb, lt-ltb, le-ltb}
 use native.Mathlib.Numerals.{unary_clauses}
 use Rattle.std.specs.List.{AllByRecursion, HoldsAt, remove, insert}
-use Rattle.std.specs.List.Sorted.{IsBinarySearchResult, IsSortedBy}
+use Rattle.std.specs.List.Sorted.{IsBinarySearchResult, IsSearchInRange}
 use Rattle.std.proofs.lemmas.List.Sorted.{searchable_from_sorted}
 use Rattle.std.proofs.lemmas.Cmp.{ranked, nat_cmp_total}
-use Rattle.std.specs.Ordering.{nat_cmp, is_lt}
-use Rattle.std.specs.Prelude.{Err}
+use Rattle.std.specs.Ordering.{nat_cmp}
+use Rattle.std.specs.Prelude.{Result, Ok, Err}
+use Rattle.std.specs.Result.{is_ok}
 use Rattle.std.specs.declared.cmp.Ordering.TheVariants.{Less, Equal, Greater}
 use Rattle.ts_sample.specs.declared.sample.Id.{Id}
-use Rattle.ts_index.specs.Numbers.{AreAscending, with_id, without_id}
+use Rattle.ts_index.specs.Numbers.{AreAscending, AreSorted, has_id, with_id, without_id}
 
 -- what holds of each holds at each index
 at : (P : Id → Type 0) (xs : List Id) (k : ℕ) (d : Id) → AllByRecursion P xs → k < length xs → P (get_or xs k d)
@@ -18,7 +19,7 @@ at P (x ∷ xs) zero d h l = h.0
 at P (x ∷ xs) (suc k) d h l = at P xs k d h.1 (omega arith)
 
 -- ascending ids are sorted
-sorted_numbers : (xs : List Id) → AreAscending xs → IsSortedBy (λ a b. is_lt (nat_cmp a.0 b.0)) xs
+pub sorted_numbers : (xs : List Id) → AreAscending xs → AreSorted xs
 sorted_numbers [] h k d l m = absurd (omega arith)
 sorted_numbers (x ∷ []) h k d l m = absurd (omega arith)
 sorted_numbers (x ∷ y ∷ xs) h zero d l m =
@@ -41,9 +42,9 @@ Gap-rest x xs p i h = record {
   above = λ k d l m. h.above (suc k) d (omega arith) (omega arith);
 }
 
-Gap-searched : (xs : List Id) (p : ℕ) (i : Id) → AreAscending xs → IsBinarySearchResult (λ y. nat_cmp y.0 i.0) xs (Err p) → Gap xs p i
+Gap-searched : (xs : List Id) (p : ℕ) (i : Id) → AreSorted xs → IsBinarySearchResult (λ y. nat_cmp y.0 i.0) xs (Err p) → Gap xs p i
 Gap-searched xs p i o found =
-    let split = found (searchable_from_sorted nat_cmp_total (λ (x : Id). x.0) xs i.0 (sorted_numbers xs o)) in
+    let split = found (searchable_from_sorted nat_cmp_total (λ (x : Id). x.0) xs i.0 o) in
     record {
       below = λ k d l. ranked (get_or xs k d).0 i.0 Less (sym (split.0 k d (omega arith) l));
       above = λ k d l m. ranked (get_or xs k d).0 i.0 Greater (sym (split.1 k d l m));
@@ -60,7 +61,7 @@ placed (x ∷ xs) (suc p) i l h =
     rw (lt-ltb x.0 i.0 less) (ap (λ r. x ∷ r) (placed xs p i (omega arith) (Gap-rest x xs p i h)))
 
 pub inserted : (xs : List Id) (p : ℕ) (i : Id) → AreAscending xs → p ≤ length xs → IsBinarySearchResult (λ y. nat_cmp y.0 i.0) xs (Err p) → insert xs p i ≡ with_id i xs
-inserted xs p i o l found = placed xs p i l (Gap-searched xs p i o found)
+inserted xs p i o l found = placed xs p i l (Gap-searched xs p i (sorted_numbers xs o) found)
 
 none_there : (xs : List Id) (p : ℕ) (i : Id) → Gap xs p i → without_id i xs ≡ xs
 none_there [] p i h = refl
@@ -72,7 +73,7 @@ none_there (x ∷ xs) (suc p) i h =
     rw (ne_eqb x.0 i.0 (λ e. absurd (omega arith))) (ap (λ r. x ∷ r) (none_there xs p i (Gap-rest x xs p i h)))
 
 pub not_there : (xs : List Id) (p : ℕ) (i : Id) → AreAscending xs → IsBinarySearchResult (λ y. nat_cmp y.0 i.0) xs (Err p) → without_id i xs ≡ xs
-not_there xs p i o found = none_there xs p i (Gap-searched xs p i o found)
+not_there xs p i o found = none_there xs p i (Gap-searched xs p i (sorted_numbers xs o) found)
 
 -- ---- where it is there
 
@@ -98,3 +99,37 @@ already xs p i o l found = stays xs p i o l (found_there xs p i found)
 
 pub removed : (xs : List Id) (p : ℕ) (i : Id) → AreAscending xs → p < length xs → HoldsAt (λ y. nat_cmp y.0 i.0 ≡ Equal) xs p → remove xs p ≡ without_id i xs
 removed xs p i o l found = goes xs p i o l (found_there xs p i found)
+
+-- ---- whether it is there
+
+gap-absent : (xs : List Id) (p : ℕ) (i : Id) → Gap xs p i → has_id i.0 xs ≡ false
+gap-absent [] p i h = refl
+gap-absent (x ∷ xs) zero i h =
+    let less : i.0 < x.0 = h.above 0 i (omega arith) (omega arith) in
+    rw (ne_eqb i.0 x.0 (λ e. absurd (omega arith))) (gap-absent xs zero i (record { below = λ k d l. absurd (omega arith); above = λ k d l m. h.above (suc k) d (omega arith) (omega arith) }))
+gap-absent (x ∷ xs) (suc p) i h =
+    let less : x.0 < i.0 = h.below 0 i (omega arith) in
+    rw (ne_eqb i.0 x.0 (λ e. absurd (omega arith))) (gap-absent xs p i (Gap-rest x xs p i h))
+
+-- an id that a search of sorted ids does not find
+pub absent : (xs : List Id) (p : ℕ) (i : Id) → AreSorted xs → IsBinarySearchResult (λ y. nat_cmp y.0 i.0) xs (Err p) → has_id i.0 xs ≡ false
+absent xs p i o found = gap-absent xs p i (Gap-searched xs p i o found)
+
+or-right : (b c : Bool) → c ≡ true → (b || c) ≡ true
+or-right true c e = refl
+or-right false c e = e
+
+-- the id at an index
+pub has-at : (xs : List Id) (p : ℕ) (d i : Id) → p < length xs → (get_or xs p d).0 ≡ i.0 → has_id i.0 xs ≡ true
+has-at [] p d i l e = absurd (omega arith)
+has-at (x ∷ xs) zero d i l e = rw (eq-eqb i.0 x.0 (sym e)) refl
+has-at (x ∷ xs) (suc p) d i l e = or-right (i.0 == x.0) (has_id i.0 xs) (has-at xs p d i (omega arith) e)
+
+-- and one that it finds
+pub present : (xs : List Id) (p : ℕ) (i : Id) → p < length xs → HoldsAt (λ y. nat_cmp y.0 i.0 ≡ Equal) xs p → has_id i.0 xs ≡ true
+present xs p i l found = has-at xs p i i l (found_there xs p i found)
+
+-- a search of sorted ids finds those that are there
+pub searched : (xs : List Id) (i : Id) (r : Result ℕ ℕ) → AreSorted xs → IsSearchInRange r (length xs) → IsBinarySearchResult (λ y. nat_cmp y.0 i.0) xs r → is_ok r ≡ has_id i.0 xs
+searched xs i (Ok p) o l found = sym (present xs p i l found)
+searched xs i (Err p) o l found = sym (absent xs p i o found)

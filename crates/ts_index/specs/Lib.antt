@@ -4,6 +4,7 @@ pub mod Numbers
 pub mod Postings
 pub mod Pairs
 pub mod Candidates
+pub mod Clearing
 pub mod Source
 pub mod MostSelective
 pub mod Selecting

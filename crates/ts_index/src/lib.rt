@@ -2,6 +2,7 @@
 #![tactic(auto)]
 
 mod candidates;
+mod clearing;
 mod distinct;
 mod index;
 mod lists;
@@ -9,6 +10,7 @@ mod most_selective;
 mod pairs;
 mod posting_list;
 mod select;
+mod taking;
 
 pub use candidates::Candidates;
 pub use index::Index;

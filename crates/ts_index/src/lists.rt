@@ -1,8 +1,9 @@
 // Posting lists by label and value.
-ghost use Rattle.std.specs.Prelude.{◌≡◌, [], ℕ, List, ◌&&◌, if◌then◌else◌, IsTrue, OnOk, OnErr};
-ghost use Rattle.ts_index.specs.Numbers.{AreAscending, with_id, without_id};
+ghost use Rattle.std.specs.Prelude.{◌≡◌, [], ℕ, List, ◌&&◌, if◌then◌else◌, true, IsTrue, OnOk, OnErr};
+ghost use Rattle.ts_index.specs.Numbers.{AreAscending, AreSorted, has_id, with_id, cleared};
 ghost use Rattle.ts_index.specs.Postings.{alike, posting_in, by_value};
 
+use crate::taking::take;
 use std::alloc::{AllocError, Global};
 use std::collections::BTreeMap;
 use ts_resp::Word;
@@ -50,31 +51,37 @@ pub(crate) fn insert_pair(
     }
 }
 
-// Removes an id from the posting list of a label and value. Drops the label once it has no posting lists left.
-pub(crate) fn remove_pair(lists: &mut Lists, label: &Word, value: &Word, id: Id)
-    requires { AreAscending (posting_in label.now value.now lists.old) }
+// Removes these ids from the posting list of a label and value, if `id` is one of its ids. Drops the label once it has
+// no posting lists left.
+pub(crate) fn remove_pair(lists: &mut Lists, label: &Word, value: &Word, id: Id, ids: &[Id])
+    requires ascending { AreAscending (posting_in label.now value.now lists.old) }
+    requires sorted { AreSorted ids.now }
+    requires among { has_id id.0 ids.now ≡ true }
     ensures { (l v : List ℕ)
         → posting_in l v lists.new
-        ≡ (if alike label.now l && alike value.now v then without_id id (posting_in l v lists.old) else posting_in l
-        v lists.old) }
+        ≡ (if alike label.now l && alike value.now v then cleared id ids.now (posting_in l v lists.old) else posting_in
+        l v lists.old) }
 {
-    if remove_from_label(lists, label, value, id) {
+    if remove_from_label(lists, label, value, id, ids) {
         let _empty = lists.remove(label);
     }
 }
 
-// Removes an id from the posting list of a label and value. Returns `true` if the label has no posting lists left.
-fn remove_from_label(lists: &mut Lists, label: &Word, value: &Word, id: Id) -> bool
-    requires { AreAscending (posting_in label.now value.now lists.old) }
+// Removes these ids from the posting list of a label and value, if `id` is one of its ids. Returns `true` if the label
+// has no posting lists left.
+fn remove_from_label(lists: &mut Lists, label: &Word, value: &Word, id: Id, ids: &[Id]) -> bool
+    requires ascending { AreAscending (posting_in label.now value.now lists.old) }
+    requires sorted { AreSorted ids.now }
+    requires among { has_id id.0 ids.now ≡ true }
     ensures lists { (l v : List ℕ)
         → posting_in l v lists.new
-        ≡ (if alike label.now l && alike value.now v then without_id id (posting_in l v lists.old) else posting_in l
-        v lists.old) }
+        ≡ (if alike label.now l && alike value.now v then cleared id ids.now (posting_in l v lists.old) else posting_in
+        l v lists.old) }
     ensures empty { IsTrue result → (v : List ℕ) → posting_in label.now v lists.new ≡ [] }
 {
     match lists.get_mut(label) {
         Some(values) => {
-            remove_value(values, value, id);
+            remove_value(values, value, id, ids);
             values.is_empty()
         }
         None => false,
@@ -107,29 +114,34 @@ pub(crate) fn insert_value(
     }
 }
 
-// Removes an id from the posting list of a value. Drops the list once it is empty.
-pub(crate) fn remove_value(values: &mut Values, value: &Word, id: Id)
-    requires { AreAscending (by_value value.now values.old) }
+// Removes these ids from the posting list of a value, if `id` is one of its ids. Drops the list once it is empty.
+pub(crate) fn remove_value(values: &mut Values, value: &Word, id: Id, ids: &[Id])
+    requires ascending { AreAscending (by_value value.now values.old) }
+    requires sorted { AreSorted ids.now }
+    requires among { has_id id.0 ids.now ≡ true }
     ensures { (v : List ℕ)
         → by_value v values.new
-        ≡ (if alike value.now v then without_id id (by_value v values.old) else by_value v values.old) }
+        ≡ (if alike value.now v then cleared id ids.now (by_value v values.old) else by_value v values.old) }
 {
-    if remove_from_posting(values, value, id) {
+    if remove_from_posting(values, value, id, ids) {
         let _empty = values.remove(value);
     }
 }
 
-// Removes an id from the posting list of a value. Returns `true` if the list is empty now.
-fn remove_from_posting(values: &mut Values, value: &Word, id: Id) -> bool
-    requires { AreAscending (by_value value.now values.old) }
+// Removes these ids from the posting list of a value, if `id` is one of its ids. Returns `true` if the list is empty
+// now.
+fn remove_from_posting(values: &mut Values, value: &Word, id: Id, ids: &[Id]) -> bool
+    requires ascending { AreAscending (by_value value.now values.old) }
+    requires sorted { AreSorted ids.now }
+    requires among { has_id id.0 ids.now ≡ true }
     ensures lists { (v : List ℕ)
         → by_value v values.new
-        ≡ (if alike value.now v then without_id id (by_value v values.old) else by_value v values.old) }
+        ≡ (if alike value.now v then cleared id ids.now (by_value v values.old) else by_value v values.old) }
     ensures empty { IsTrue result → by_value value.now values.new ≡ [] }
 {
     match values.get_mut(value) {
         Some(list) => {
-            take(list, id);
+            take(list, id, ids);
             list.is_empty()
         }
         None => false,
@@ -147,15 +159,4 @@ pub(crate) fn insert_id(list: &mut Vec<Id>, id: Id) -> Result<(), AllocError>
         list.insert(place, id)?;
     }
     Ok(())
-}
-
-// Removes an id from a sorted list.
-#[tactic(auto, using(crate::proofs::PlaceLemmas::removed, crate::proofs::PlaceLemmas::not_there))]
-pub(crate) fn take(list: &mut Vec<Id>, id: Id)
-    requires { AreAscending list.old.items }
-    ensures { list.new.items ≡ without_id id list.old.items }
-{
-    if let Ok(place) = list.binary_search(&id) {
-        let _id = list.remove(place);
-    }
 }

@@ -104,7 +104,7 @@ fn remove_unshared(lists: &mut Lists, id: Id, label: &Word, value: &Word, others
     if has_pair(others, label, value) {
         return;
     }
-    remove_pair(lists, label, value, id);
+    remove_pair(lists, label, value, id, &[id]);
 }
 
 // Whether the labels contain this label with this value.
