@@ -61,3 +61,6 @@ pub mod PushedRules
 pub mod RuleBetween
 pub mod RestoredLaw
 pub mod StoredParts
+pub mod Unlabelled
+pub mod Unlabelling
+pub mod Dropped

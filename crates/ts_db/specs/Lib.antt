@@ -4,6 +4,7 @@ pub mod Candidates
 pub mod FaultNames
 pub mod Faults
 pub mod DestinationUpdates
+pub mod Dropping
 pub mod OpenAppend
 pub mod DbState
 pub mod Indexed

@@ -1,12 +1,14 @@
 // The public operations that change series.
-ghost use Rattle.std.specs.Prelude.{◌≡◌, ◌≤◌, is_some, IfOk, IfErr, ◌*◌};
+ghost use Rattle.std.specs.Prelude.{◌≡◌, ◌≤◌, length, is_some, IfOk, IfErr, ◌*◌};
 ghost use Rattle.ts_spec.specs.Sample.{MAX_TIME};
 ghost use Rattle.ts_spec.specs.Keyed.{get};
-ghost use Rattle.ts_spec.specs.Step.{create, alter, add, put_own, incr, delete, create_rule, delete_rule};
+ghost use Rattle.ts_spec.specs.Step.{create, alter, add, put_own, incr, delete, create_rule, delete_rule, drop_keys};
+ghost use Rattle.ts_spec.specs.Response.{Count};
 ghost use Rattle.ts_sample.specs.Steps.{Takes};
 ghost use Rattle.ts_labels.specs.Spec.{spec_of, change_of};
 ghost use Rattle.ts_db.specs.Faults.{IsRefusal};
-ghost use Rattle.ts_db.specs.DbState.{DbState, Represents, AnswersDone, AnswersCount, NamesFullSeries, Drops, reach_at};
+ghost use Rattle.ts_db.specs.DbState.{DbState, Represents, AnswersDone, AnswersCount, NamesFullSeries, Drops, IsDone};
+ghost use Rattle.ts_db.specs.DbState.{reach_at};
 ghost use Rattle.ts_db.specs.Bounds.{write_steps, IsEasyAppend, IsIgnored, IsChangeIgnored, deletion_steps};
 
 use crate::db::Db;
@@ -171,5 +173,15 @@ impl Db {
         ensures limits { self.new.limits ≡ self.old.limits }
     {
         self.store.drop_key(key)
+    }
+    /// Deletes keys in order, each with its series and all rules from and to it (DEL). Returns how many existed; a
+    /// repeated key counts once. Takes memory for the ids of many keys, and is slower where there is none.
+    pub fn drop_keys(&mut self, keys: &[Word]) -> u64
+        ensures dropped { (from : DbState) → Represents self.old from
+            → IsDone (Count result) from.limits (drop_keys from.state 0 keys.now) self.new }
+        ensures bounded { result ≤ length keys.now }
+        ensures limits { self.new.limits ≡ self.old.limits }
+    {
+        self.store.drop_keys(keys)
     }
 }

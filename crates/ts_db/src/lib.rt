@@ -7,6 +7,7 @@ mod changes;
 mod create;
 mod db;
 mod deletion;
+mod dropping;
 mod fault;
 mod hints;
 mod increase;
