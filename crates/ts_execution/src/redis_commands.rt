@@ -22,13 +22,7 @@ pub(crate) fn drop_keys(db: &mut Db, keys: &[Word]) -> Reply
         (λ from to. IsStep (drop_keys from.state 0 keys.now) from (reply_of result) to) }
     ensures short { IsShort (reply_of result) }
 {
-    let mut count = 0;
-    for key in keys {
-        if db.drop_key(key) {
-            count += 1;
-        }
-    }
-    number(count)
+    number(db.drop_keys(keys))
 }
 
 /// Returns how many of the arguments are keys. A repeated key counts each time.
