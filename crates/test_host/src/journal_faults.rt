@@ -1,4 +1,4 @@
-// A journal whose calls fail, or take few bytes: nobody is told what it does not keep.
+// A journal whose calls fail or take only a few bytes: no client gets a reply whose record is not in it.
 use crate::journal::{ADDED, CREATED, DELETED};
 use crate::run::check;
 use crate::talk::{Event, QUIET, Talk};
