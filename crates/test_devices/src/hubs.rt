@@ -1,47 +1,79 @@
-// A hub in memory.
+// Hubs in memory.
 use std::alloc::{AllocError, Global};
-use std::test::Fail;
-use ts_io::{Failed, Hub, MemHub, Next, Packet, Step, Way};
+use std::io;
+use test_script::{Device, Script, done, number_of, numbers_of, push_bytes, shown, silent, told};
+use ts_io::{Failed, Hub, MemHub, Next, Packet, Step};
 
-// Bytes of a link, as a step.
-fn comes(alloc: Global, link: u64, bytes: &[u8]) -> Result<Step, AllocError> {
-    Ok(Step::Comes(Packet::new(alloc, link, bytes)?))
+/// `MemHub 3 | 1:ask | pause | 1:`: fails at these calls, and then the steps: bytes of a link, or a pause.
+pub(crate) fn in_memory(script: &mut Script, text: &str) -> io::Result<()> {
+    let alloc = script.alloc();
+    let (fail, steps) = text.split_once(" | ").unwrap_or((text, ""));
+    let hub = MemHub::new(alloc, steps_of(alloc, steps)?, numbers_of(alloc, fail)?);
+    script.run(&mut HubCalls { hub })
 }
 
-#[test]
-fn a_hub_in_memory_gives_its_steps_and_fails_at_its_number(rt: HostRuntime) -> Result<(), Fail> {
-    let alloc = rt.alloc();
-    let mut coming = Vec::new(alloc);
-    coming.push(comes(alloc, 1, b"ask")?)?;
-    coming.push(Step::Pauses)?;
-    coming.push(comes(alloc, 1, b"")?)?;
-    let mut hub = MemHub::new(alloc, coming, [3].to_vec(alloc)?);
-    assert!(rt; hub.open("here") == Ok(()));
-    assert!(rt; hub.next() == Ok(Next::Bytes(1)));
-    assert!(rt; hub.next() == Err(Failed));
-    assert!(rt; hub.bytes() == b"ask".as_slice());
-    assert!(rt; hub.next() == Ok(Next::Pause));
-    assert!(rt; hub.next() == Ok(Next::Closed(1, Way::Closed)));
-    assert!(rt; hub.next() == Ok(Next::End));
-    assert!(rt; hub.next() == Ok(Next::End));
-    Ok(())
+fn steps_of(alloc: Global, text: &str) -> Result<Vec<Step>, AllocError> {
+    let mut steps = Vec::new(alloc);
+    for step in text.split(" | ") {
+        match step.split_once(':') {
+            Some((link, bytes)) => {
+                let packet = Packet::new(alloc, number_of(link), bytes.as_bytes())?;
+                steps.push(Step::Comes(packet))?;
+            }
+            None if step.is_empty() => {}
+            None => steps.push(Step::Pauses)?,
+        }
+    }
+    Ok(steps)
 }
 
-#[test]
-fn a_hub_in_memory_lets_out_what_it_is_given(rt: HostRuntime) -> Result<(), Fail> {
-    let mut hub = MemHub::new(rt.alloc(), Vec::new(rt.alloc()), [2].to_vec(rt.alloc())?);
-    assert!(rt; hub.give(7, b"one") == Ok(()));
-    assert!(rt; hub.give(7, b"lost") == Err(Failed));
-    assert!(rt; hub.give(8, b"two") == Ok(()));
-    assert!(rt; hub.sent().is_empty());
-    hub.let_out();
-    hub.close(8);
-    assert!(rt; hub.give(9, b"three") == Ok(()));
-    assert!(rt; hub.sent().len() == 2);
-    assert!(rt; hub.sent().first().map(|packet| packet.link) == Some(7));
-    let Some(last) = hub.sent().last() else {
-        return Err("sent".into())
-    };
-    assert!(rt; last.bytes.as_slice() == b"two".as_slice());
-    Ok(())
+// Its calls are those of hubs, with `give 1 one` for a link and bytes, and `sent`.
+#[derive(Drop)]
+struct HubCalls {
+    hub: MemHub,
+}
+
+impl Device for HubCalls {
+    fn answer(&mut self, alloc: Global, verb: &str, text: &str) -> io::Result<Option<String>> {
+        match verb {
+            "open" => done(alloc, self.hub.open(text)),
+            "next" => next(alloc, self.hub.next()),
+            "bytes" => shown(alloc, self.hub.bytes()),
+            "give" => give(alloc, &mut self.hub, text),
+            "let-out" => {
+                self.hub.let_out();
+                silent(alloc)
+            }
+            "close" => {
+                self.hub.close(number_of(text));
+                silent(alloc)
+            }
+            "sent" => sent(alloc, self.hub.sent()),
+            _ => Ok(None),
+        }
+    }
+}
+
+fn next(alloc: Global, outcome: Result<Next, Failed>) -> io::Result<Option<String>> {
+    match outcome {
+        Ok(next) => told(alloc, format_args!("{next:?}")),
+        Err(_) => told(alloc, "failed"),
+    }
+}
+
+fn give(alloc: Global, hub: &mut MemHub, text: &str) -> io::Result<Option<String>> {
+    let (link, bytes) = text.split_once(' ').unwrap_or((text, ""));
+    done(alloc, hub.give(number_of(link), bytes.as_bytes()))
+}
+
+// The links and bytes that were let out.
+fn sent(alloc: Global, packets: &[Packet]) -> io::Result<Option<String>> {
+    let mut list = String::new(alloc);
+    for packet in packets {
+        let link = packet.link;
+        list.push_str(&format!(in alloc; "{link}:")?)?;
+        push_bytes(&mut list, &packet.bytes)?;
+        list.push(' ')?;
+    }
+    Ok(Some(list))
 }

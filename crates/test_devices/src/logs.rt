@@ -1,126 +1,155 @@
-// Logs, in memory and over a file.
-ghost use Rattle.std.specs.Prelude.{◌≡◌, IfOk};
-ghost use Rattle.ts_io.specs.Logs.{place_after};
+// Calls of logs, and logs in memory.
+use std::alloc::Global;
+use std::io;
+use test_script::{
+    Device, Script, bytes_of, bytes_read, cause, counted, done, number_of, numbers_of, push_bytes,
+    shown, told,
+};
+use ts_io::{Failed, Gathered, Log, MemLog, append_all_counted, write_draft_all};
 
-use std::fs;
-use std::test::Fail;
-use ts_io::{Cause, Failed, FileLog, Gathered, Log, MemLog, append_all_counted};
-
-// Reads the next bytes of any log.
-pub(crate) fn read_log<J: Log>(log: &mut J, buf: &mut [u8]) -> Result<usize, Failed>
-    ensures { IfOk result (λ n. J.place log.new ≡ place_after (J.place log.old) n) }
-{
-    log.read(buf)
+/// Any log. `read` shows its buffer of four bytes, which is filled from the start by each read.
+#[derive(Drop)]
+pub(crate) struct LogCalls<J> {
+    log: J,
+    buf: [u8; 4],
 }
 
-fn cause_of<J: Log>(log: &J) -> Option<Cause> {
-    log.last_cause()
+impl<J: Log> LogCalls<J> {
+    pub(crate) fn new(log: J) -> Self {
+        LogCalls { log, buf: [0; 4] }
+    }
+
+    fn read(&mut self, alloc: Global) -> io::Result<Option<String>> {
+        let outcome = self.log.read(&mut self.buf);
+        bytes_read(alloc, outcome, &self.buf)
+    }
+
+    // `read-and-cut 2 1` reads, and then cuts to each of two lengths, at most what was read.
+    fn read_and_cut(&mut self, alloc: Global, text: &str) -> io::Result<Option<String>> {
+        let (first, second) = text.split_once(' ').unwrap_or((text, ""));
+        let (first, second) = (number_of(first), number_of(second));
+        let Ok((count, first, second)) = read_and_cut_twice(
+            &mut self.log,
+            &mut self.buf,
+            first,
+            second,
+        ) else {
+            return told(alloc, "failed");
+        };
+        let mut answer = format!(in alloc; "{count} ")?;
+        push_bytes(&mut answer, &self.buf)?;
+        answer.push_str(if first { ", ok" } else { ", failed" })?;
+        answer.push_str(if second { ", ok" } else { ", failed" })?;
+        Ok(Some(answer))
+    }
+
+    // The calls on drafts. `replace n ew` drafts these bytes in two writes and publishes them.
+    fn answer_on_draft(
+        &mut self,
+        alloc: Global,
+        verb: &str,
+        text: &str,
+    ) -> io::Result<Option<String>> {
+        match verb {
+            "draft" => done(alloc, self.log.draft()),
+            "write-draft" => counted(alloc, self.log.write_draft(&bytes_of(alloc, text)?)),
+            "write-draft-all" => done(
+                alloc,
+                write_draft_all(&mut self.log, &bytes_of(alloc, text)?),
+            ),
+            "publish" => done(alloc, self.log.publish()),
+            "replace" => done(alloc, replace(&mut self.log, text)),
+            _ => Ok(None),
+        }
+    }
 }
 
-#[test]
-fn a_log_in_memory_fails_at_its_numbers_and_goes_on(rt: HostRuntime) -> Result<(), Fail> {
-    let content = b"abcdef".to_vec(rt.alloc())?;
-    let fail = [2, 5, 7].to_vec(rt.alloc())?;
-    let mut log = MemLog::new(content, fail);
-    assert!(rt; log.open("any") == Ok(()));
-    assert!(rt; log.open("any") == Err(Failed));
-    let mut buf = [0; 4];
-    let Ok(count) = read_log(&mut log, &mut buf) else {
-        return Err("read".into())
-    };
-    assert!(rt; count == 4);
-    assert!(rt; buf == *b"abcd");
-    assert!(rt; log.cut(2) == Ok(()));
-    assert!(rt; log.cut(1) == Err(Failed));
-    assert!(rt; log.bytes() == b"ab".as_slice());
-    assert!(rt; log.append(b"xyz") == Ok(3));
-    assert!(rt; log.append(b"more") == Err(Failed));
-    assert!(rt; log.bytes() == b"abxyz".as_slice());
-    assert!(rt; read_log(&mut log, &mut buf) == Ok(1));
-    assert!(rt; buf == *b"zbcd");
-    assert!(rt; read_log(&mut log, &mut buf) == Ok(0));
-    assert!(rt; log.open("any") == Ok(()));
-    assert!(rt; read_log(&mut log, &mut buf) == Ok(4));
-    assert!(rt; buf == *b"abxy");
-    Ok(())
+impl<J: Log> Device for LogCalls<J> {
+    fn answer(&mut self, alloc: Global, verb: &str, text: &str) -> io::Result<Option<String>> {
+        match verb {
+            "open" => done(alloc, self.log.open(text)),
+            "read" => self.read(alloc),
+            "read-and-cut" => self.read_and_cut(alloc, text),
+            "cut-all" => done(alloc, self.log.cut(0)),
+            "append" => counted(alloc, self.log.append(&bytes_of(alloc, text)?)),
+            "append-all" => done(
+                alloc,
+                append_all_counted(&mut self.log, &bytes_of(alloc, text)?),
+            ),
+            "sync" => done(alloc, self.log.sync()),
+            "cause" => cause(alloc, self.log.last_cause()),
+            _ => self.answer_on_draft(alloc, verb, text),
+        }
+    }
 }
 
-#[test]
-fn a_file_is_a_log_for_one_at_a_time(rt: HostRuntime) -> Result<(), Fail> {
-    let name = "some.log";
-    let mut buf = [0; 4];
-    let mut log = FileLog::new(&rt);
-    assert!(rt; append_all_counted(&mut log, b"abc") == Err(Failed));
-    assert!(rt; log.cut(0) == Err(Failed));
-    assert!(rt; log.sync() == Err(Failed));
-    assert!(rt; read_log(&mut log, &mut buf) == Err(Failed));
-    assert!(rt; log.open(name) == Ok(()));
-    assert!(rt; read_log(&mut log, &mut buf) == Ok(0));
-    assert!(rt; append_all_counted(&mut log, b"abcdef") == Ok(()));
-    assert!(rt; log.sync() == Ok(()));
-    let mut other = FileLog::new(&rt);
-    assert!(rt; other.open(name) == Err(Failed));
-    assert!(rt; cause_of(&other) == Some(Cause::Locked));
-    assert!(rt; fs::read(&rt, name)?.as_slice() == b"abcdef".as_slice());
-
-    // Reopening starts at the beginning.
-    assert!(rt; log.open(name) == Ok(()));
-    let Ok(count) = read_log(&mut log, &mut buf) else {
-        return Err("read".into())
-    };
-    assert!(rt; count == 4);
-    assert!(rt; buf == *b"abcd");
-
-    // A second cut past its end does not extend it.
-    assert!(rt; log.cut(2) == Ok(()));
-    assert!(rt; log.cut(4) == Ok(()));
-    assert!(rt; append_all_counted(&mut log, b"xyz") == Ok(()));
-    assert!(rt; fs::read(&rt, name)?.as_slice() == b"abxyz".as_slice());
-    assert!(rt; read_log(&mut log, &mut buf) == Ok(1));
-    assert!(rt; buf == *b"zbcd");
-
-    // Once it is closed, another log can open it.
-    drop(log);
-    assert!(rt; other.open(name) == Ok(()));
-    assert!(rt; read_log(&mut other, &mut buf) == Ok(4));
-    assert!(rt; buf == *b"abxy");
-    fs::remove_file(&rt, name)?;
-    Ok(())
+// Returns how many bytes were read, and whether each cut succeeded.
+fn read_and_cut_twice<J: Log>(
+    log: &mut J,
+    buf: &mut [u8],
+    first: u64,
+    second: u64,
+) -> Result<(usize, bool, bool), Failed> {
+    let count = log.read(buf)?;
+    let first = log.cut(first.min(count as u64)).is_ok();
+    let second = log.cut(second.min(count as u64)).is_ok();
+    Ok((count, first, second))
 }
 
-#[test]
-fn gathered_records_leave_in_one_write(rt: HostRuntime) -> Result<(), Fail> {
-    let fail = [3].to_vec(rt.alloc())?;
-    let mut log = MemLog::new(Vec::new(rt.alloc()), fail);
-    let mut gathered = Gathered::new(rt.alloc(), &mut log);
-    assert!(rt; gathered.settle() == Ok(()));
-    assert!(rt; gathered.sync() == Ok(()));
-
-    // The first call: one append of both.
-    assert!(rt; gathered.add(b"one") == Ok(()));
-    assert!(rt; gathered.add(b"two") == Ok(()));
-    assert!(rt; gathered.settle() == Ok(()));
-
-    // The second call. What is synced is not synced again.
-    assert!(rt; gathered.sync() == Ok(()));
-    assert!(rt; gathered.sync() == Ok(()));
-    assert!(rt; gathered.add(b"three") == Ok(()));
-    assert!(rt; gathered.settle() == Err(Failed));
-    drop(gathered);
-    assert!(rt; log.bytes() == b"onetwo".as_slice());
-    Ok(())
+fn replace<J: Log>(log: &mut J, text: &str) -> Result<(), Failed> {
+    let (first, second) = text.split_once(' ').unwrap_or((text, ""));
+    log.draft()?;
+    write_draft_all(log, first.as_bytes())?;
+    write_draft_all(log, second.as_bytes())?;
+    log.publish()
 }
 
-#[test]
-fn a_log_is_a_regular_file(rt: HostRuntime) {
-    let mut log = FileLog::new(&rt);
-    assert!(rt; log.last_cause().is_none());
-    assert!(rt; log.open("/dev/null") == Err(Failed));
-    assert!(rt; cause_of(&log) == Some(Cause::NotRegularFile));
-    assert!(rt; log.open("no/such/folder/some.log") == Err(Failed));
-    assert!(rt; cause_of(&log) == Some(Cause::NoSuchFolder));
-    assert!(rt; log.open(".") == Err(Failed));
-    assert!(rt; cause_of(&log) == Some(Cause::NotRegularFile));
-    assert!(rt; log.sync() == Err(Failed));
-    assert!(rt; cause_of(&log).is_none());
+/// `MemLog abc 2 5`: has these bytes and fails at these calls. Its calls are those of logs, and `bytes`.
+pub(crate) fn in_memory(script: &mut Script, text: &str) -> io::Result<()> {
+    let alloc = script.alloc();
+    let (bytes, fail) = text.split_once(' ').unwrap_or((text, ""));
+    let log = MemLog::new(bytes_of(alloc, bytes)?, numbers_of(alloc, fail)?);
+    script.run(&mut MemLogCalls {
+        calls: LogCalls::new(log),
+    })
+}
+
+#[derive(Drop)]
+struct MemLogCalls {
+    calls: LogCalls<MemLog>,
+}
+
+impl Device for MemLogCalls {
+    fn answer(&mut self, alloc: Global, verb: &str, text: &str) -> io::Result<Option<String>> {
+        match verb {
+            "bytes" => shown(alloc, self.calls.log.bytes()),
+            _ => self.calls.answer(alloc, verb, text),
+        }
+    }
+}
+
+/// `Gathered 3`, over an empty log that fails at these calls. At the end, `bytes` are those of the log.
+pub(crate) fn gathered(script: &mut Script, text: &str) -> io::Result<()> {
+    let alloc = script.alloc();
+    let mut log = MemLog::new(Vec::new(alloc), numbers_of(alloc, text)?);
+    script.run(&mut GatheredCalls {
+        gathered: Gathered::new(alloc, &mut log),
+    })?;
+    script.check("bytes", shown(alloc, log.bytes())?)
+}
+
+#[derive(Drop)]
+struct GatheredCalls<'a> {
+    gathered: Gathered<'a, MemLog>,
+}
+
+impl Device for GatheredCalls<'_> {
+    fn answer(&mut self, alloc: Global, verb: &str, text: &str) -> io::Result<Option<String>> {
+        match verb {
+            "add" => done(alloc, self.gathered.add(text.as_bytes())),
+            "settle" => done(alloc, self.gathered.settle()),
+            "sync" => done(alloc, self.gathered.sync()),
+            _ => Ok(None),
+        }
+    }
 }

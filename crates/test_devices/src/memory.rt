@@ -1,86 +1,136 @@
-// Devices in memory, the counting sink, and one call of any device.
-use std::test::Fail;
-use ts_io::{
-    Clock, CountSink, Ends, Failed, Listener, MemClock, MemListener, MemSink, MemSource, Sink,
-    Source, write_all_counted,
-};
+// Sources, sinks and a listener in memory, and adapters over std's readers and writers.
+use crate::faulty::Flaky;
+use crate::streams::{SinkCalls, SourceCalls, write};
+use std::alloc::Global;
+use std::io;
+use std::io::ErrorKind;
+use test_script::{Device, Script, bytes_of, counted, done, numbers_of, shown, told};
+use ts_io::{CountSink, Ends, Listener, MemListener, MemSink, MemSource, Sink, StdSink, StdSource};
 
-// Reads two bytes from any source.
-pub(crate) fn read_two<S: Source>(source: &mut S) -> Result<(usize, [u8; 2]), Failed> {
-    let mut buf = [0; 2];
-    let count = source.read(&mut buf)?;
-    Ok((count, buf))
+/// `MemSource abc 2`: has these bytes, gives up to five of them a read, and fails at reads with these numbers.
+pub(crate) fn source(script: &mut Script, text: &str) -> io::Result<()> {
+    let alloc = script.alloc();
+    let (bytes, fail) = text.split_once(' ').unwrap_or((text, ""));
+    let source = MemSource::new(bytes_of(alloc, bytes)?, 5, numbers_of(alloc, fail)?);
+    script.run(&mut SourceCalls { source })
 }
 
-pub(crate) fn write_once<K: Sink>(sink: &mut K, bytes: &[u8]) -> Result<usize, Failed> {
-    sink.write(bytes)
+/// `MemSink 2`: takes up to two bytes a write, and fails at writes with these numbers. `bytes` are those that it has.
+pub(crate) fn sink(script: &mut Script, text: &str) -> io::Result<()> {
+    let alloc = script.alloc();
+    let sink = MemSink::new(alloc, 2, numbers_of(alloc, text)?);
+    script.run(&mut MemSinkCalls { sink })
 }
 
-pub(crate) fn time_of<C: Clock>(clock: &mut C) -> u64 {
-    clock.now()
+#[derive(Drop)]
+struct MemSinkCalls {
+    sink: MemSink,
 }
 
-#[test]
-fn a_source_in_memory_fails_at_its_number_and_goes_on(rt: HostRuntime) -> Result<(), Fail> {
-    let bytes = b"abc".to_vec(rt.alloc())?;
-    let fail = [2].to_vec(rt.alloc())?;
-    let mut source = MemSource::new(bytes, 5, fail);
-    assert!(rt; read_two(&mut source) == Ok((2, *b"ab")));
-    assert!(rt; read_two(&mut source) == Err(Failed));
-    assert!(rt; read_two(&mut source) == Ok((1, *b"c\0")));
-    assert!(rt; read_two(&mut source) == Ok((0, *b"\0\0")));
-    Ok(())
+impl Device for MemSinkCalls {
+    fn answer(&mut self, alloc: Global, verb: &str, text: &str) -> io::Result<Option<String>> {
+        match verb {
+            "bytes" => shown(alloc, self.sink.bytes()),
+            _ => write(alloc, &mut self.sink, verb, text),
+        }
+    }
 }
 
-#[test]
-fn a_sink_in_memory_fails_at_its_number_and_goes_on(rt: HostRuntime) -> Result<(), Fail> {
-    let fail = [2].to_vec(rt.alloc())?;
-    let mut sink = MemSink::new(rt.alloc(), 2, fail);
-    assert!(rt; write_all_counted(&mut sink, b"abcd") == Err(Failed));
-    assert!(rt; sink.bytes() == b"ab".as_slice());
-    assert!(rt; write_all_counted(&mut sink, b"xyz") == Ok(()));
-    assert!(rt; sink.bytes() == b"abxyz".as_slice());
-    Ok(())
+/// `CountSink`. Its calls are those of sinks, `total` and `errors`.
+pub(crate) fn counting_sink(script: &mut Script) -> io::Result<()> {
+    script.run(&mut CountSinkCalls {
+        sink: CountSink::new(),
+    })
 }
 
-#[test]
-fn a_clock_in_memory_gives_its_last_reading_again(rt: HostRuntime) -> Result<(), Fail> {
-    let mut clock = MemClock::new([5, 7].to_vec(rt.alloc())?);
-    assert!(rt; time_of(&mut clock) == 5);
-    assert!(rt; time_of(&mut clock) == 7);
-    assert!(rt; time_of(&mut clock) == 7);
-    assert!(rt; time_of(&mut MemClock::new(Vec::new(rt.alloc()))) == 0);
-    Ok(())
+#[derive(Drop)]
+struct CountSinkCalls {
+    sink: CountSink,
 }
 
-#[test]
-fn a_closed_link_comes_back_with_what_was_written(rt: HostRuntime) -> Result<(), Fail> {
-    let alloc = rt.alloc();
+impl Device for CountSinkCalls {
+    fn answer(&mut self, alloc: Global, verb: &str, text: &str) -> io::Result<Option<String>> {
+        match verb {
+            "total" => told(alloc, self.sink.total()),
+            "errors" => told(alloc, self.sink.errors()),
+            _ => write(alloc, &mut self.sink, verb, text),
+        }
+    }
+}
+
+/// `MemListener 1`: one link, whose input is `in`. The calls of the listener with these numbers fail. It is opened
+/// twice, and accepts the link, whose output takes calls of sinks. After it is closed, `accept` again must fail, and
+/// `done` is how many links have closed, and what was written to the first.
+pub(crate) fn listener(script: &mut Script, text: &str) -> io::Result<()> {
+    let alloc = script.alloc();
     let mut links = Vec::new(alloc);
     links.push(Ends {
-        input: MemSource::new(b"in".to_vec(alloc)?, 9, Vec::new(alloc)),
+        input: MemSource::new(bytes_of(alloc, "in")?, 9, Vec::new(alloc)),
         out: MemSink::new(alloc, 9, Vec::new(alloc)),
     })?;
-    let mut listener = MemListener::new(alloc, links, [1].to_vec(alloc)?)?;
-    assert!(rt; listener.open("here") == Err(Failed));
-    assert!(rt; listener.open("here") == Ok(()));
+    let mut listener = MemListener::new(alloc, links, numbers_of(alloc, text)?)?;
+    script.check("open", done(alloc, listener.open("here"))?)?;
+    script.check("open", done(alloc, listener.open("here"))?)?;
     let Ok(mut ends) = listener.accept() else {
-        return Err("accept".into())
+        return Err(io::Error::from(ErrorKind::NotConnected));
     };
-    assert!(rt; ends.out.write(b"out") == Ok(3));
+    script.check("write", counted(alloc, ends.out.write(b"out"))?)?;
     listener.close(ends);
-    assert!(rt; listener.accept().is_err());
-    assert!(rt; listener.done().len() == 1);
-    assert!(rt; listener.done()[0].out.bytes() == b"out".as_slice());
-    Ok(())
+    let is_refused = listener.accept().is_err();
+    script.check("refused", told(alloc, is_refused)?)?;
+    script.check("closed", told(alloc, listener.done().len())?)?;
+    script.check("written", first_written(alloc, listener.done())?)
 }
 
-#[test]
-fn bytes_and_errors_are_counted_over_writes(rt: HostRuntime) {
-    let mut sink = CountSink::new();
-    assert!(rt; write_all_counted(&mut sink, b"-ERR a-b\r") == Ok(()));
-    assert!(rt; write_all_counted(&mut sink, b"\n") == Ok(()));
-    assert!(rt; write_all_counted(&mut sink, b"-ERR\r\n:-1\r\n--") == Ok(()));
-    assert!(rt; sink.total() == 23);
-    assert!(rt; sink.errors() == 3);
+// What was written to the first of these links.
+fn first_written(alloc: Global, links: &[Ends<MemSource, MemSink>]) -> io::Result<Option<String>> {
+    match links.first() {
+        Some(link) => shown(alloc, link.out.bytes()),
+        None => Ok(None),
+    }
+}
+
+/// `StdSource abc`, a source over a slice.
+pub(crate) fn std_source(script: &mut Script, text: &str) -> io::Result<()> {
+    script.run(&mut SourceCalls {
+        source: StdSource::new(text.as_bytes()),
+    })
+}
+
+/// `StdSink`, a sink over a vector. What is `written` is seen at the end.
+pub(crate) fn std_sink(script: &mut Script) -> io::Result<()> {
+    let alloc = script.alloc();
+    let mut written = Vec::new(alloc);
+    script.run(&mut SinkCalls {
+        sink: StdSink::new(&mut written),
+    })?;
+    script.check("written", shown(alloc, &written)?)
+}
+
+/// `FlakySource`, a source over a reader, every second of whose calls fails, the first one too.
+pub(crate) fn flaky_source(script: &mut Script) -> io::Result<()> {
+    script.run(&mut SourceCalls {
+        source: StdSource::new(Flaky { fails: true }),
+    })
+}
+
+/// `FlakySink`, a sink over a writer, every second of whose flushes fails, the first one too.
+pub(crate) fn flaky_sink(script: &mut Script) -> io::Result<()> {
+    script.run(&mut FlakySinkCalls {
+        sink: StdSink::new(Flaky { fails: true }),
+    })
+}
+
+#[derive(Drop)]
+struct FlakySinkCalls {
+    sink: StdSink<Flaky>,
+}
+
+impl Device for FlakySinkCalls {
+    fn answer(&mut self, alloc: Global, verb: &str, text: &str) -> io::Result<Option<String>> {
+        match verb {
+            "unacknowledged" => told(alloc, self.sink.unacknowledged()),
+            _ => write(alloc, &mut self.sink, verb, text),
+        }
+    }
 }

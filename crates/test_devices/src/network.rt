@@ -2,139 +2,109 @@
 ghost use Rattle.std.specs.Prelude.{◌≡◌, false, IfOk};
 ghost use Rattle.ts_io.specs.Adapters.{link_is_open};
 
-use crate::memory::{read_two, write_once};
+use crate::clients::ClientCalls;
+use crate::streams::{read_two, write};
+use std::alloc::Global;
 use std::io;
-use std::io::{Read, Write};
-use std::net::{Shutdown, SocketAddr, TcpListener, TcpStream};
-use std::test::Fail;
-use ts_io::{Failed, Listener, TcpNet, write_all_counted};
+use std::io::ErrorKind;
+use std::net::{TcpListener, TcpStream};
+use test_script::{Device, Script, done, number_of, silent, told};
+use ts_io::{
+    Ends, Failed, Listener, Sink, Source, StdSink, StdSource, TcpNet, TcpReader, TcpWriter,
+    write_all_counted,
+};
 
-// A local address that nothing listens on.
-fn free_address(rt: &HostRuntime) -> io::Result<SocketAddr> {
-    TcpListener::bind(rt, "127.0.0.1:0")?.local_addr()
-}
-
-#[test]
-fn a_connection_is_a_link(rt: HostRuntime) -> Result<(), Fail> {
-    let address = free_address(&rt)?;
-    let text = format!(in rt.alloc(); "{address}")?;
-    let mut net = TcpNet::new(&rt);
-    assert!(rt; net.open(&text) == Ok(()));
-    let mut client = TcpStream::connect(&rt, address)?;
-    client.write_all(b"ask")?;
-    client.shutdown(Shutdown::Write)?;
-    let Ok(mut ends) = net.accept() else {
-        return Err("accept".into())
+/// `TcpNet`: a listener with one client. At first there are calls of the client; from the first other call on, the link
+/// is accepted, and there are calls of both; with `closed` the listener closes it, and calls of the client follow.
+pub(crate) fn run(rt: &HostRuntime, script: &mut Script) -> io::Result<()> {
+    let alloc = script.alloc();
+    let (mut net, mut client) = connected(rt)?;
+    script.run(&mut client)?;
+    let Ok(ends) = net.accept() else {
+        return Err(io::Error::from(ErrorKind::NotConnected));
     };
-    assert!(rt; read_two(&mut ends.input) == Ok((2, *b"as")));
-    assert!(rt; read_two(&mut ends.input) == Ok((1, *b"k\0")));
-    assert!(rt; read_two(&mut ends.input) == Ok((0, *b"\0\0")));
-    assert!(rt; write_all_counted(&mut ends.out, b"told") == Ok(()));
+    let mut link = LinkCalls { ends, client };
+    script.run(&mut link)?;
+    let LinkCalls { ends, mut client } = link;
     net.close(ends);
-    let mut told = Vec::new(rt.alloc());
-    client.read_to_end(&mut told)?;
-    assert!(rt; told.as_slice() == b"told".as_slice());
-    Ok(())
+    script.check("closed", silent(alloc)?)?;
+    script.run(&mut client)
 }
 
-// A listener and a client connected to it.
-fn connected(rt: &HostRuntime) -> Result<(TcpNet<&HostRuntime>, TcpStream), Fail>
+// A listener and a client connected to it. Before it listens, it accepts nothing.
+fn connected(rt: &HostRuntime) -> io::Result<(TcpNet<&HostRuntime>, ClientCalls)>
     ensures { IfOk result (λ r. link_is_open r.0 ≡ false) }
 {
-    let address = free_address(rt)?;
+    let address = TcpListener::bind(rt, "127.0.0.1:0")?.local_addr()?;
     let text = format!(in rt.alloc(); "{address}")?;
     let mut net = TcpNet::new(rt);
+    if net.accept().is_ok() {
+        return Err(io::Error::from(ErrorKind::Other));
+    }
     if net.open(&text).is_err() {
-        return Err("open".into());
+        return Err(io::Error::from(ErrorKind::NotConnected));
     }
-    let client = TcpStream::connect(rt, address)?;
-    Ok((net, client))
+    let stream = TcpStream::connect(rt, address)?;
+    Ok((net, ClientCalls::new(rt.alloc(), stream)))
 }
 
-#[test]
-fn no_reply_is_lost_where_the_client_has_sent_more(rt: HostRuntime) -> Result<(), Fail> {
-    let (mut net, mut client) = connected(&rt)?;
-    client.write_all(&[b'q'; 100_000])?;
-    client.shutdown(Shutdown::Write)?;
-    let Ok(mut ends) = net.accept() else {
-        return Err("accept".into())
-    };
-    assert!(rt; read_two(&mut ends.input) == Ok((2, *b"qq")));
-    for _ in 0..1000 {
-        assert!(rt; write_all_counted(&mut ends.out, b"told") == Ok(()));
-    }
-    net.close(ends);
-    let mut told = Vec::new(rt.alloc());
-    client.read_to_end(&mut told)?;
-    assert!(rt; told.len() == 4000);
-    Ok(())
+#[derive(Drop)]
+struct LinkCalls {
+    ends: Ends<StdSource<TcpReader>, StdSink<TcpWriter>>,
+    client: ClientCalls,
 }
 
-// The client reads only what the system has buffered so far, and the server continues where it would block.
-#[test]
-fn a_client_that_reads_late_has_all(rt: HostRuntime) -> Result<(), Fail> {
-    let (mut net, mut client) = connected(&rt)?;
-    client.write_all(&[b'q'; 20_000])?;
-    let Ok(mut ends) = net.accept() else {
-        return Err("accept".into())
-    };
-    let mut reply = [0; 1000];
-    for turn in 0..20_000 {
-        reply[turn % 1000] = (turn % 251) as u8;
-        assert!(rt; write_all_counted(&mut ends.out, &reply) == Ok(()));
-    }
-    client.set_nonblocking(true)?;
-    let mut told = Vec::new(rt.alloc());
-    let mut room = [0; 65536];
-    for _ in 0..10_000 {
-        assert!(rt; read_two(&mut ends.input) == Ok((2, *b"qq")));
-        if let Ok(count) = client.read(&mut room) {
-            told.extend_from_slice(&room[..count])?;
+// The calls of sources and sinks, and those of the client. `reply 20000` writes so many replies; `write-fails 10000` is
+// whether one of so many writes fails; and `read-late 10000` reads as often, while the client reads what has come.
+impl Device for LinkCalls {
+    fn answer(&mut self, alloc: Global, verb: &str, text: &str) -> io::Result<Option<String>> {
+        match verb {
+            "read" => read_two(alloc, &mut self.ends.input),
+            "write" | "write-all" => write(alloc, &mut self.ends.out, verb, text),
+            "reply" => done(alloc, reply(&mut self.ends.out, number_of(text))),
+            "write-fails" => told(alloc, write_fails(&mut self.ends.out, number_of(text))),
+            "read-late" => done(alloc, self.read_late(number_of(text))?),
+            _ => self.client.answer(alloc, verb, text),
         }
     }
-    client.set_nonblocking(false)?;
-    client.shutdown(Shutdown::Write)?;
-    net.close(ends);
-    client.read_to_end(&mut told)?;
-    assert!(rt; told.len() == 20_000_000);
-    assert!(rt; told.ends_with(&reply));
-    Ok(())
 }
 
-#[test]
-fn a_send_that_fails_shows_at_the_next_read(rt: HostRuntime) -> Result<(), Fail> {
-    let (mut net, mut client) = connected(&rt)?;
-    client.write_all(b"ask")?;
-    let Ok(mut ends) = net.accept() else {
-        return Err("accept".into())
-    };
-    assert!(rt; write_once(&mut ends.out, b"told") == Ok(4));
-    assert!(rt; read_two(&mut ends.input) == Ok((2, *b"as")));
-
-    // The client leaves bytes unread, so closing resets the connection.
-    drop(client);
-    assert!(rt; write_once(&mut ends.out, b"told") == Ok(4));
-    assert!(rt; read_two(&mut ends.input) == Err(Failed));
-    net.close(ends);
-    Ok(())
-}
-
-#[test]
-fn a_client_that_leaves_makes_writes_fail(rt: HostRuntime) -> Result<(), Fail> {
-    let address = free_address(&rt)?;
-    let text = format!(in rt.alloc(); "{address}")?;
-    let mut net = TcpNet::new(&rt);
-    assert!(rt; net.accept().is_err());
-    assert!(rt; net.open(&text) == Ok(()));
-    drop(TcpStream::connect(&rt, address)?);
-    let Ok(mut ends) = net.accept() else {
-        return Err("accept".into())
-    };
-    let mut failed = false;
-    for _ in 0..10_000 {
-        failed = failed || write_once(&mut ends.out, b"told").is_err();
+impl LinkCalls {
+    // Reads two bytes so often. In between, the client reads what the system has buffered so far.
+    fn read_late(&mut self, count: u64) -> io::Result<Result<(), Failed>> {
+        let mut room = [0; 65536];
+        self.client.set_nonblocking(true)?;
+        for _ in 0..count {
+            if !reads_two(&mut self.ends.input) {
+                return Ok(Err(Failed));
+            }
+            self.client.hear_some(&mut room)?;
+        }
+        self.client.set_nonblocking(false)?;
+        Ok(Ok(()))
     }
-    assert!(rt; failed);
-    net.close(ends);
+}
+
+fn reads_two<S: Source>(source: &mut S) -> bool {
+    let mut buf = [0; 2];
+    source.read(&mut buf) == Ok(2) && buf == *b"qq"
+}
+
+// Writes so many replies of a thousand bytes, from each to the next with one byte changed.
+fn reply<K: Sink>(sink: &mut K, count: u64) -> Result<(), Failed> {
+    let mut reply = [0; 1000];
+    for turn in 0..count {
+        reply[(turn % 1000) as usize] = (turn % 251) as u8;
+        write_all_counted(sink, &reply)?;
+    }
     Ok(())
+}
+
+// Whether one of so many writes fails.
+fn write_fails<K: Sink>(sink: &mut K, count: u64) -> bool {
+    let mut fails = false;
+    for _ in 0..count {
+        fails = sink.write(b"told").is_err() || fails;
+    }
+    fails
 }

@@ -12,7 +12,7 @@ pub(crate) struct Peer {
     pub(crate) taken: Vec<u8>,
     pub(crate) most: usize,
     pub(crate) fails: bool,
-    pub(crate) silent: u32,
+    pub(crate) silent: u64,
     pub(crate) coming: usize,
     pub(crate) sends: u32,
     faults: u64,

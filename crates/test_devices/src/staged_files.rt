@@ -8,15 +8,15 @@ use std::path::PathBuf;
 use std::rt::Files;
 
 #[derive(Drop)]
-pub(crate) struct StagedFiles<'a, R> {
+pub(crate) struct StagedFiles<R> {
     rt: R,
     // how many calls are made until one fails, or 0
     until_fault: Cell<u64>,
     // a file that gets the name of the next file opened
-    replacement: Cell<Option<&'a str>>,
+    replacement: Cell<Option<String>>,
 }
 
-impl<'a, R: Files<File = File>> StagedFiles<'a, R> {
+impl<R: Files<File = File>> StagedFiles<R> {
     pub(crate) fn new(rt: R) -> Self {
         StagedFiles {
             rt,
@@ -31,7 +31,7 @@ impl<'a, R: Files<File = File>> StagedFiles<'a, R> {
     }
 
     // The next file opened is replaced at once: the file of this name gets its name.
-    pub(crate) fn replace_next(&self, replacement: &'a str) {
+    pub(crate) fn replace_next(&self, replacement: String) {
         self.replacement.set(Some(replacement));
     }
 
@@ -45,7 +45,7 @@ impl<'a, R: Files<File = File>> StagedFiles<'a, R> {
     }
 }
 
-impl<R: AllocGlobal> Alloc for StagedFiles<'_, R> {
+impl<R: AllocGlobal> Alloc for StagedFiles<R> {
     type A = Global;
 
     fn alloc(&self) -> Global {
@@ -53,7 +53,7 @@ impl<R: AllocGlobal> Alloc for StagedFiles<'_, R> {
     }
 }
 
-impl<R: Files<File = File>> Files for StagedFiles<'_, R> {
+impl<R: Files<File = File>> Files for StagedFiles<R> {
     type File = File;
 
     type Dir = R::Dir;
@@ -62,7 +62,7 @@ impl<R: Files<File = File>> Files for StagedFiles<'_, R> {
         self.call()?;
         let file = self.rt.open_file(how, path)?;
         if let Some(replacement) = self.replacement.take() {
-            self.rt.rename(replacement, path)?;
+            self.rt.rename(replacement.as_str(), path)?;
         }
         Ok(file)
     }

@@ -1,10 +1,9 @@
 // A hub that echoes what it receives, and its clients.
-use std::fs;
-use std::io::Read;
+use std::io::ErrorKind;
 use std::net::{SocketAddr, TcpListener, TcpStream};
-use std::test::Fail;
 use std::time::Duration;
-use ts_io::{Failed, Hub, Next, Way};
+use std::{fs, io};
+use ts_io::{Hub, Next, Way};
 use ts_net::TcpHub;
 
 /// How long a client waits for a reply before its test fails, in seconds.
@@ -25,12 +24,12 @@ pub(crate) struct Echo<'a> {
 }
 
 impl<'a> Echo<'a> {
-    pub(crate) fn new(rt: &'a HostRuntime) -> Result<Self, Fail> {
+    pub(crate) fn new(rt: &'a HostRuntime) -> io::Result<Self> {
         let address = TcpListener::bind(rt, "127.0.0.1:0")?.local_addr()?;
         let text = format!(in rt.alloc(); "{address}")?;
         let mut hub = TcpHub::new(rt, rt.alloc());
         if hub.open(&text).is_err() {
-            return Err("open".into());
+            return Err(io::Error::from(ErrorKind::NotConnected));
         }
         Ok(Echo {
             rt,
@@ -43,48 +42,60 @@ impl<'a> Echo<'a> {
         })
     }
 
-    pub(crate) fn connect(&self) -> Result<TcpStream, Fail> {
+    pub(crate) fn connect(&self) -> io::Result<TcpStream> {
         let client = TcpStream::connect(self.rt, self.address)?;
         client.set_nodelay(true)?;
         client.set_read_timeout(Some(Duration::from_secs(PATIENCE)))?;
         Ok(client)
     }
 
-    pub(crate) fn connect_many(&self, count: usize) -> Result<Vec<TcpStream>, Fail> {
-        let mut clients = Vec::new(self.rt.alloc());
-        for _ in 0..count {
-            clients.push(self.connect()?)?;
-        }
-        Ok(clients)
-    }
-
     /// Takes what has arrived, until a pause, and keeps the echo of it back.
-    pub(crate) fn take(&mut self) -> Result<(), Fail> {
+    pub(crate) fn take(&mut self) -> io::Result<()> {
         self.in_round = 0;
         for _ in 0..u64::MAX {
             match self.hub.next() {
                 Ok(Next::Bytes(link)) => self.echo(link)?,
                 Ok(Next::Closed(link, way)) => self.closed.push((link, way))?,
                 Ok(Next::Pause) => return Ok(()),
-                Ok(Next::End) | Err(_) => return Err("next".into()),
+                Ok(Next::End) | Err(_) => return Err(io::Error::from(ErrorKind::Other)),
             }
         }
         Ok(())
     }
 
-    fn echo(&mut self, link: u64) -> Result<(), Fail> {
+    /// Takes until this many bytes were received in all, at least once and at most eleven times.
+    pub(crate) fn take_some(&mut self, total: usize) -> io::Result<()> {
+        self.take()?;
+        for _ in 0..10 {
+            if self.taken >= total {
+                break;
+            }
+            self.take()?;
+        }
+        Ok(())
+    }
+
+    fn echo(&mut self, link: u64) -> io::Result<()> {
         let bytes = self.hub.bytes().to_vec(self.rt.alloc())?;
         self.newest = link;
         self.taken = self.taken.saturating_add(bytes.len());
         self.in_round = self.in_round.saturating_add(bytes.len());
         if self.hub.give(link, &bytes).is_err() {
-            return Err("give".into());
+            return Err(io::Error::from(ErrorKind::Other));
         }
         Ok(())
     }
 
+    /// Whether the link that closed last has this number, and its client closed it.
+    pub(crate) fn has_closed_last(&self, link: u64) -> bool {
+        match self.closed.last() {
+            Some((last, way)) => *last == link && *way == Way::Closed,
+            None => false,
+        }
+    }
+
     /// Takes and echoes until this many bytes were received in all.
-    pub(crate) fn serve(&mut self, total: usize) -> Result<(), Fail> {
+    pub(crate) fn serve(&mut self, total: usize) -> io::Result<()> {
         for _ in 0..u64::MAX {
             if self.taken >= total {
                 return Ok(());
@@ -96,7 +107,7 @@ impl<'a> Echo<'a> {
     }
 
     /// Takes and echoes until this many links have closed.
-    pub(crate) fn serve_until_closed(&mut self, links: usize) -> Result<(), Fail> {
+    pub(crate) fn serve_until_closed(&mut self, links: usize) -> io::Result<()> {
         for _ in 0..u64::MAX {
             if self.closed.len() >= links {
                 return Ok(());
@@ -108,7 +119,7 @@ impl<'a> Echo<'a> {
     }
 
     /// Takes and echoes until this many descriptors are open.
-    pub(crate) fn serve_until_open(&mut self, count: usize) -> Result<(), Fail> {
+    pub(crate) fn serve_until_open(&mut self, count: usize) -> io::Result<()> {
         for _ in 0..u64::MAX {
             if open_descriptors(self.rt)? == count {
                 return Ok(());
@@ -121,45 +132,13 @@ impl<'a> Echo<'a> {
 }
 
 /// How many descriptors the process has open. That of the listing is counted too.
-pub(crate) fn open_descriptors(rt: &HostRuntime) -> Result<usize, Fail> {
+pub(crate) fn open_descriptors(rt: &HostRuntime) -> io::Result<usize> {
     let mut count: usize = 0;
     for entry in fs::read_dir(rt, "/proc/self/fd")? {
         entry?;
         count = count.saturating_add(1);
     }
     Ok(count)
-}
-
-/// Opens as many descriptors as the process may, at most one more than `most`.
-pub(crate) fn open_many(rt: &HostRuntime, most: usize) -> Result<Vec<TcpListener>, Fail> {
-    let listener = TcpListener::bind(rt, "127.0.0.1:0")?;
-    let mut opened = Vec::new(rt.alloc());
-    for _ in 0..most {
-        match listener.try_clone() {
-            Ok(more) => opened.push(more)?,
-            Err(_) => break,
-        }
-    }
-    opened.push(listener)?;
-    Ok(opened)
-}
-
-/// Whether the client receives exactly these bytes next.
-pub(crate) fn hears(client: &mut TcpStream, rt: &HostRuntime, bytes: &[u8]) -> Result<bool, Fail> {
-    let mut heard = Vec::from_elem(rt.alloc(), 0, bytes.len())?;
-    client.read_exact(&mut heard)?;
-    Ok(heard.as_slice() == bytes)
-}
-
-/// All that the client receives until the server closes.
-pub(crate) fn hear_all(client: &mut TcpStream, rt: &HostRuntime) -> Result<Vec<u8>, Fail> {
-    let mut heard = Vec::new(rt.alloc());
-    client.read_to_end(&mut heard)?;
-    Ok(heard)
-}
-
-pub(crate) fn next_of<H: Hub>(hub: &mut H) -> Result<Next, Failed> {
-    hub.next()
 }
 
 /// The link whose bytes come next. Pauses before that are passed over.

@@ -1,98 +1,92 @@
 // Clients that read late or never.
-use crate::echo::{Echo, hear_all, hears, next_bytes, next_of};
-use std::io::{Read, Write};
-use std::net::TcpStream;
-use std::test::Fail;
-use ts_io::{Hub, Next, Way};
+use crate::links::EchoCalls;
+use std::alloc::Global;
+use std::io;
+use std::io::{ErrorKind, Read, Write};
+use test_script::{Device, Script, bytes_of, number_of, silent, told};
+use ts_io::Hub;
 
-const MEBIBYTE: usize = 1_048_576;
+const MEBIBYTE: u64 = 1_048_576;
 
-// One request of a client and its reply.
-fn ask(client: &mut TcpStream, echo: &mut Echo, rt: &HostRuntime) -> Result<bool, Fail> {
-    client.write_all(b"other")?;
-    let total = echo.taken.saturating_add(5);
-    echo.serve(total)?;
-    hears(client, rt, b"other")
+/// Runs the calls on a hub with a client that reads late or never, the first one, and another one.
+pub(crate) fn run(rt: &HostRuntime, script: &mut Script) -> io::Result<()> {
+    script.run(&mut SlowCalls {
+        calls: EchoCalls::new(rt)?,
+    })
 }
 
-// Gives a link a MiB again and again until it closes, while another client is served. Returns how many it gave.
-fn give_until_closed(
-    echo: &mut Echo,
-    other: &mut TcpStream,
-    rt: &HostRuntime,
-) -> Result<usize, Fail> {
-    let reply = Vec::from_elem(rt.alloc(), b'r', MEBIBYTE)?;
-    for replies in 0..200 {
-        if !echo.closed.is_empty() {
-            return Ok(replies);
-        }
-        if echo.hub.give(1, &reply).is_err() || !ask(other, echo, rt)? {
-            break;
-        }
+#[derive(Drop)]
+struct SlowCalls<'a> {
+    calls: EchoCalls<'a>,
+}
+
+impl SlowCalls<'_> {
+    // One request of the second client and its reply.
+    fn ask(&mut self, alloc: Global) -> io::Result<bool> {
+        self.calls.clients.client(2)?.write_all(b"other")?;
+        let total = self.calls.echo.taken.saturating_add(5);
+        self.calls.echo.serve(total)?;
+        self.calls.clients.hears(alloc, 2, b"other")
     }
-    Err("not cut".into())
-}
 
-#[test]
-fn a_client_that_never_reads_is_cut_and_others_are_served(rt: HostRuntime) -> Result<(), Fail> {
-    let mut echo = Echo::new(&rt)?;
-    let mut deaf = echo.connect()?;
-    deaf.write_all(b"ask")?;
-    echo.serve(3)?;
-    let mut other = echo.connect()?;
-
-    // Some MiB are in the buffers of the system.
-    assert!(rt; give_until_closed(&mut echo, &mut other, &rt)? > 64);
-    assert!(rt; echo.closed.as_slice() == [(1, Way::Cut)].as_slice());
-    assert!(rt; ask(&mut other, &mut echo, &rt)?);
-    Ok(())
-}
-
-// Reads this many bytes. Each time that none have arrived the hub sends more, woken by bytes of another client.
-fn read_late(
-    client: &mut TcpStream,
-    other: &mut TcpStream,
-    echo: &mut Echo,
-    count: usize,
-    room: &mut [u8],
-) -> Result<(), Fail> {
-    let mut heard: usize = 0;
-    client.set_nonblocking(true)?;
-    for _ in 0..u64::MAX {
-        if heard >= count {
-            break;
-        }
-        match client.read(room) {
-            Ok(0) => return Err("closed".into()),
-            Ok(more) => heard = heard.saturating_add(more),
-            Err(_) => {
-                other.write_all(b"other")?;
-                echo.take()?;
+    // Gives the first link a MiB again and again until it closes, while the other client is served. Returns whether
+    // these were more than `least`: some MiB are in the buffers of the system.
+    fn give_until_closed(&mut self, alloc: Global, least: u64) -> io::Result<bool> {
+        let reply = bytes_of(alloc, "numbered 1048576")?;
+        for replies in 0..200 {
+            if !self.calls.echo.closed.is_empty() {
+                return Ok(replies > least);
+            }
+            if self.calls.echo.hub.give(1, &reply).is_err() || !self.ask(alloc)? {
+                break;
             }
         }
+        Ok(false)
     }
-    client.set_nonblocking(false)?;
-    Ok(())
+
+    // The first client reads this many MiB. Each time that nothing has arrived the hub sends more, woken by bytes of
+    // the second.
+    fn read_late(&mut self, alloc: Global, count: u64) -> io::Result<()> {
+        let mut room = bytes_of(alloc, "numbered 1048576")?;
+        let count = count.saturating_mul(MEBIBYTE);
+        let mut heard: u64 = 0;
+        self.calls.clients.client(1)?.set_nonblocking(true)?;
+        for _ in 0..u64::MAX {
+            if heard >= count {
+                break;
+            }
+            heard = heard.saturating_add(self.read_some(&mut room)?);
+        }
+        self.calls.clients.client(1)?.set_nonblocking(false)
+    }
+
+    fn read_some(&mut self, room: &mut [u8]) -> io::Result<u64> {
+        match self.calls.clients.client(1)?.read(room) {
+            Ok(0) => return Err(io::Error::from(ErrorKind::UnexpectedEof)),
+            Ok(more) => return Ok(more as u64),
+            Err(_) => {}
+        }
+        self.calls.clients.client(2)?.write_all(b"other")?;
+        self.calls.echo.take()?;
+        Ok(0)
+    }
 }
 
-#[test]
-fn one_reply_may_be_larger_than_what_may_wait(rt: HostRuntime) -> Result<(), Fail> {
-    let mut echo = Echo::new(&rt)?;
-    let mut client = echo.connect()?;
-    client.write_all(b"ask")?;
-    assert!(rt; next_bytes(&mut echo.hub) == Some(1));
-    let mut room = Vec::from_elem(rt.alloc(), b'r', MEBIBYTE)?;
-    let mut reply = Vec::new(rt.alloc());
-    for _ in 0..65 {
-        reply.extend_from_slice(&room)?;
+// The calls of a hub and its clients, `ask` of the second client, `closes-after-more-than 64` for how many MiB are
+// given to the first until its link closes, and `read-late 65` MiB.
+impl Device for SlowCalls<'_> {
+    fn answer(&mut self, alloc: Global, verb: &str, text: &str) -> io::Result<Option<String>> {
+        match verb {
+            "ask" => told(alloc, self.ask(alloc)?),
+            "closes-after-more-than" => told(
+                alloc,
+                self.give_until_closed(alloc, number_of(text))?,
+            ),
+            "read-late" => {
+                self.read_late(alloc, number_of(text))?;
+                silent(alloc)
+            }
+            _ => self.calls.answer(alloc, verb, text),
+        }
     }
-    assert!(rt; echo.hub.give(1, &reply).is_ok());
-    echo.hub.close(1);
-    assert!(rt; next_of(&mut echo.hub) == Ok(Next::Pause));
-    echo.hub.let_out();
-    let mut other = echo.connect()?;
-    read_late(&mut client, &mut other, &mut echo, reply.len(), &mut room)?;
-    assert!(rt; hear_all(&mut client, &rt)?.is_empty());
-    assert!(rt; echo.closed.is_empty());
-    Ok(())
 }

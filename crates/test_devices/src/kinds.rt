@@ -1,0 +1,43 @@
+// Which device a test is about.
+use crate::{batches, clocks, files, hubs, logs, memory, network, queue};
+use std::io;
+use std::io::ErrorKind;
+use test_script::Script;
+
+/// Runs the calls on the device in this line.
+pub(crate) fn run(rt: &HostRuntime, device: &str, script: &mut Script) -> io::Result<()> {
+    let (kind, text) = device.split_once(' ').unwrap_or((device, ""));
+    match kind {
+        "FileLog" => files::logs(rt, script),
+        "StagedFiles" => files::staged_logs(rt, script),
+        "TcpNet" => network::run(rt, script),
+        "SystemClock" => clocks::system(rt, script),
+        "MemClock" => clocks::in_memory(script, text),
+        "Batches" => batches::run(script, text),
+        "Waiting" => queue::run(script),
+        _ => run_in_memory(kind, text, script),
+    }
+}
+
+fn run_in_memory(kind: &str, text: &str, script: &mut Script) -> io::Result<()> {
+    match kind {
+        "MemLog" => logs::in_memory(script, text),
+        "Gathered" => logs::gathered(script, text),
+        "MemHub" => hubs::in_memory(script, text),
+        "MemListener" => memory::listener(script, text),
+        _ => run_on_streams(kind, text, script),
+    }
+}
+
+fn run_on_streams(kind: &str, text: &str, script: &mut Script) -> io::Result<()> {
+    match kind {
+        "MemSource" => memory::source(script, text),
+        "MemSink" => memory::sink(script, text),
+        "CountSink" => memory::counting_sink(script),
+        "StdSource" => memory::std_source(script, text),
+        "StdSink" => memory::std_sink(script),
+        "FlakySource" => memory::flaky_source(script),
+        "FlakySink" => memory::flaky_sink(script),
+        _ => Err(io::Error::from(ErrorKind::InvalidInput)),
+    }
+}
