@@ -24,7 +24,7 @@ pub(crate) fn restored_text<L: Ledger>(
         return Ok(None);
     };
     match PackedChunk::of_bytes(alloc, limit, &bytes)? {
-        Some(chunk) => Ok(Some(chunk_text(alloc, &chunk, steps)?)),
+        Some(restored) => Ok(Some(chunk_text(alloc, &restored.chunk, steps)?)),
         None => Ok(Some(String::from_str(alloc, "none")?)),
     }
 }

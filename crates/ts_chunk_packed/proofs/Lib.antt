@@ -18,3 +18,4 @@ pub mod Walking
 pub mod Zigzags
 pub mod Restoring
 pub mod AnyBytes
+pub mod Shortest

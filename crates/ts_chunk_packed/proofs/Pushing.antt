@@ -12,7 +12,7 @@ use Rattle.ts_chunk_packed.specs.Laws.{IsKnown, most_coded, three_or_more}
 use Rattle.ts_chunk_packed.specs.Packed.{State, begin, next, coded, packed, state_from, samples_of, decoded}
 use Rattle.ts_chunk_packed.proofs.Listing.{samples_back, state_is, past_before, all_known, packed-push, state-push}
 
-first-push : (begins : Option Point) (ps : List Point) (p : Point) → begins ≡ first_of ps → Some (unwrap_or begins p) ≡ first_of (ps ++ p ∷ [])
+pub first-push : (begins : Option Point) (ps : List Point) (p : Point) → begins ≡ first_of ps → Some (unwrap_or begins p) ≡ first_of (ps ++ p ∷ [])
 first-push begins [] p is = ap (λ (o : Option Point). Some (unwrap_or o p)) is
 first-push begins (r ∷ ps) p is = ap (λ (o : Option Point). Some (unwrap_or o p)) is
 

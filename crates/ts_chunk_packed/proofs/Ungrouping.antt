@@ -53,7 +53,7 @@ rest_begins limit x xs b more = elim (cases_lt b.value 128) [
 ]
 
 -- the byte at an index stands before the rest
-byte_at : (bytes : List ℕ) (i : ℕ) → i < length bytes → drop i bytes ≡ get_or bytes i 0 ∷ drop (i + 1) bytes
+pub byte_at : (bytes : List ℕ) (i : ℕ) → i < length bytes → drop i bytes ≡ get_or bytes i 0 ∷ drop (i + 1) bytes
 byte_at bytes i within = rw (add-one) (drop-cons bytes i 0 within)
 
 -- a slice from an index on
@@ -93,6 +93,10 @@ module _ (limit : ℕ) (bytes : List ℕ) (i sum weight : ℕ) (inside : i < len
     some = omega (arith, here.some);
     below = here.below;
   }
+
+  -- which is not 0
+  pub rest_some : 128 ≤ byte → 1 ≤ (number_of left).0
+  rest_some more = (rest_begins limit byte left here.begins more).1
 
   pub still_within : 128 ≤ byte → i + 1 < length bytes
   still_within more = within limit bytes (i + 1) (sum + (byte - 128) * weight) (weight * 128) (read_on more)

@@ -1,6 +1,7 @@
 -- Zigzag coding and decoding.
-use Rattle.std.proofs.Common.{◌≡◌, ℕ, suc, ◌-◌, ◌*◌, ◌/◌, ◌%◌, refl, ℤ, pos, negsuc, true, false, nat_eq, ap, ◌∙◌, arith}
+use Rattle.std.proofs.Common.{◌≡◌, ℕ, suc, ◌-◌, ◌*◌, ◌/◌, ◌%◌, refl, ℤ, pos, negsuc, true, false, nat_eq, ap, ◌∙◌, inl, inr, arith}
 use Rattle.std.specs.Prelude.{◌≤ℤ◌, ◌<ℤ◌, unsigned_abs}
+use Rattle.std.proofs.lemmas.Bool.{cases_lt}
 use Rattle.std.proofs.lemmas.Bool.Decides.{nat_tests}
 use Rattle.std.proofs.lemmas.Int.{ints}
 use Rattle.ts_chunk_packed.specs.Packed.{zigzag, unzigzag}
@@ -29,3 +30,11 @@ pub zigzag_back : (z : ℤ) → unzigzag (zigzag z) ≡ z
 unfolding zigzag
 zigzag_back (pos n) = unzigzag_even (2 * n) (omega arith) ∙ ap pos (let half : 2 * n / 2 ≡ n = omega arith in half)
 zigzag_back (negsuc n) = unzigzag_odd (2 * suc n - 1) (omega arith) ∙ ap negsuc (let half : (2 * suc n - 1) / 2 ≡ n = omega arith in half)
+
+-- each number is the code of one difference
+pub zigzag_forth : (n : ℕ) → zigzag (unzigzag n) ≡ n
+unfolding zigzag
+zigzag_forth n = elim (cases_lt (n % 2) 1) [
+  | inl even ↦ ap zigzag (unzigzag_even n (omega arith)) ∙ (let half : 2 * (n / 2) ≡ n = omega arith in half)
+  | inr odd ↦ ap zigzag (unzigzag_odd n (omega arith)) ∙ (let half : 2 * suc (n / 2) - 1 ≡ n = omega arith in half)
+]

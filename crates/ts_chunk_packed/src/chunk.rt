@@ -11,6 +11,7 @@ use crate::coding::{MAX_SAMPLE_BYTES, encode, width_of};
 use crate::interval_scan::walk;
 use crate::late_marks::LateMarks;
 use crate::mark::{Mark, MarkPosition};
+pub use restored::RestoredChunk;
 use std::alloc::{AllocError, Global};
 use std::marker::Model;
 use std::sync::ledger::Ledger;
@@ -190,8 +191,8 @@ impl Chunk for PackedChunk {
     ghost one_fits = { one_within };
 }
 
-// Sets `first` if it is not set yet.
-fn keep_first(first: &mut Option<Sample>, sample: &Sample)
+/// Sets `first` if it is not set yet.
+pub(crate) fn keep_first(first: &mut Option<Sample>, sample: &Sample)
     ensures { first.new ≡ Some (unwrap_or first.old sample.now) }
 {
     if first.is_none() {

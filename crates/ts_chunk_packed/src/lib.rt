@@ -15,5 +15,5 @@ mod untrusted;
 mod varint;
 mod zigzag;
 
-pub use chunk::PackedChunk;
+pub use chunk::{PackedChunk, RestoredChunk};
 pub use coding::packed_samples_read_back;

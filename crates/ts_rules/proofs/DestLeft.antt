@@ -14,8 +14,9 @@ use Rattle.ts_spec.proofs.Samples.{at-time}
 use Rattle.ts_spec.proofs.TwoBuckets.{loses-within}
 use Rattle.ts_spec.proofs.TwoRows.{end_rows, two-rows}
 use Rattle.ts_spec.proofs.Spans.{span_rows, high-span, updated_list-deletion}
+use Rattle.ts_sample.specs.Chunk.{AreMade}
 use Rattle.ts_series.specs.History.{History, IsKept, list_of}
-use Rattle.ts_series.specs.Plan.{Plan, AreWithin, AreMade}
+use Rattle.ts_series.specs.Plan.{Plan, AreWithin}
 use Rattle.ts_rules.specs.declared.rule.Rule.{Rule}
 use Rattle.ts_rules.specs.declared.plan.RuleFault.{RuleFault}
 use Rattle.ts_rules.specs.Rules.{stored_rule_for, one_of}

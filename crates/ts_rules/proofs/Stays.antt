@@ -5,7 +5,8 @@ use Rattle.std.proofs.lemmas.Bool.{cases_lt, false≢true}
 use Rattle.ts_spec.specs.Sample.{Point, IsAfter, IsAscending, at, at_times, between, is_within, put, put_all}
 use Rattle.ts_spec.specs.Valid.{Every}
 use Rattle.ts_spec.proofs.Samples.{IsBefore, at-after, at-time, at-times, ascending-times, ascending-put_all}
-use Rattle.ts_series.specs.Plan.{AreWithin, AreMade}
+use Rattle.ts_sample.specs.Chunk.{AreMade}
+use Rattle.ts_series.specs.Plan.{AreWithin}
 use Rattle.ts_rules.specs.Rules.{one_of}
 use Rattle.ts_rules.proofs.Times.{within-from, within-to}
 

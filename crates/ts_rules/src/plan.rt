@@ -3,9 +3,10 @@ ghost use Rattle.std.specs.Prelude.{Some, ◌≡◌, ◌≤◌, ◌*◌, false, 
 ghost use Rattle.std.specs.Option.{ForSome};
 ghost use Rattle.ts_spec.specs.Sample.{MAX_TIME, IsAscending, is_within};
 ghost use Rattle.ts_sample.specs.Steps.{Takes};
+ghost use Rattle.ts_sample.specs.Chunk.{AreMade};
 ghost use Rattle.ts_series.specs.History.{list_of, reach};
 ghost use Rattle.ts_series.specs.Mend.{IsRowPast};
-ghost use Rattle.ts_series.specs.Plan.{AreWithin, AreMade};
+ghost use Rattle.ts_series.specs.Plan.{AreWithin};
 ghost use Rattle.ts_rules.specs.FaultNames.{name_of};
 ghost use Rattle.ts_rules.specs.Rules.{one_of};
 ghost use Rattle.ts_rules.specs.Plans.{IsUpdate};

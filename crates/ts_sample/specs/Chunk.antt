@@ -8,6 +8,11 @@ abbrev pub AreInBounds : List Point → Type 0
 AreInBounds [] = ⊤
 AreInBounds (p ∷ ps) = IsInBounds p × AreInBounds ps
 
+-- every sample was written when at most `most` rules had been created
+abbrev pub AreMade : (most : ℕ) → List Point → Type 0
+AreMade most [] = ⊤
+AreMade most (p ∷ ps) = (p.made ≤ most) × AreMade most ps
+
 -- the least and the greatest limit of a chunk, in bytes
 abbrev pub least_limit : ℕ
 least_limit = 48

@@ -1,5 +1,5 @@
 -- The same samples in both formats, and copies sample by sample.
-use Rattle.std.proofs.Common.{◌≡◌, ◌≢◌, ℕ, zero, suc, ◌+◌, ◌*◌, ◌<◌, ◌≤◌, List, [], ◌∷◌, ◌++◌, length, get_or, take, drop, refl, sym, ◌∙◌, ap, arith, length-append}
+use Rattle.std.proofs.Common.{◌≡◌, ℕ, zero, suc, ◌+◌, ◌*◌, ◌<◌, ◌≤◌, List, [], ◌∷◌, ◌++◌, length, get_or, take, drop, refl, sym, ◌∙◌, ap, arith, length-append}
 use Rattle.std.specs.Prelude.{Option, None, Some, IfNone, IsSome}
 use Rattle.std.proofs.Math.Seq.{take-suc}
 use Rattle.ts_spec.specs.Sample.{Point, IsAscending, first_of}
@@ -81,12 +81,11 @@ one-further ps n m p is further =
     one (q ∷ ps) (suc n) is = one ps n is
 
 -- a chunk whose copy does not fit is none of a plain series
-pub none-plain : {X : Type 0} (o : Option X) (limit most : ℕ) (bytes : List ℕ) (qs : List Point) → IfNone o (most < length (plain qs)) → most ≡ limit → packed qs ≡ bytes
-    → IfNone o ((ps : List Point) → IsChunk packed limit ps → IsChunk plain limit ps → ps ≢ [] → packed ps ≡ bytes → ⊥)
-none-plain None limit most bytes qs full same coded = λ ps _ chunk _ also. (
+pub none-plain : (limit most : ℕ) (bytes : List ℕ) (qs : List Point) → most < length (plain qs) → most ≡ limit → packed qs ≡ bytes
+    → (ps : List Point) → IsChunk plain limit ps → packed ps ≡ bytes → ⊥
+none-plain limit most bytes qs full same coded ps chunk also =
     let one : length (plain ps) ≡ length (plain qs) = ap (λ (l : List Point). length (plain l)) (same-packed ps qs (also ∙ sym coded)) in
-    absurd (omega (arith, chunk.fits, one, full)))
-none-plain (Some x) limit most bytes qs full same coded = tt
+    omega (arith, chunk.fits, one, full)
 
 -- the copy of a plain chunk fits
 pub some-packed : {X : Type 0} (o : Option X) (limit : ℕ) (ps : List Point) → IfNone o (limit < length (packed ps)) → IsChunk plain limit ps → IsSome o

@@ -12,9 +12,10 @@ use Rattle.ts_spec.specs.Valid.{IsUpTo, IsOwn}
 use Rattle.ts_spec.proofs.Samples.{at-put_all, ascending-put_all, ascending-times}
 use Rattle.ts_spec.proofs.Sound.{IsPart, part-times}
 use Rattle.ts_spec.proofs.Settles.{times-within, upto-raised, upto-here}
+use Rattle.ts_sample.specs.Chunk.{AreMade}
 use Rattle.ts_series.specs.Stored.{Stored, points, AreStoredChunks, IsTrimmed}
 use Rattle.ts_series.specs.History.{History, history_of, list_of, low, record_of, IsKeptIn}
-use Rattle.ts_series.specs.Plan.{Plan, AreMade, after, without_cut}
+use Rattle.ts_series.specs.Plan.{Plan, after, without_cut}
 use Rattle.ts_series.proofs.Cutting.{part-cut}
 
 -- one more rule was made on it

@@ -5,12 +5,12 @@ use Rattle.std.proofs.lemmas.Bool.Decides.{nat_tests}
 use Rattle.ts_spec.specs.Sample.{Point, IsAscending, is_within, at_times, between, outside, put_all}
 use Rattle.ts_spec.specs.State.{edge_of}
 use Rattle.ts_spec.specs.StoredUpdates.{high_after_rows}
-use Rattle.ts_sample.specs.Chunk.{joined}
+use Rattle.ts_sample.specs.Chunk.{joined, AreMade}
 use Rattle.ts_sample.proofs.Between.{filter-filter}
 use Rattle.ts_spec.specs.declared.series.Encoding.{Encoding}
 use Rattle.ts_series.specs.Stored.{Change, points, pieces_after, IsReady, HasLimits}
 use Rattle.ts_series.specs.History.{History, low, limit_for, IsKeptIn}
-use Rattle.ts_series.specs.Plan.{Plan, AreWithin, AreMade, chunk_capacity, IsForIn}
+use Rattle.ts_series.specs.Plan.{Plan, AreWithin, chunk_capacity, IsForIn}
 use Rattle.ts_series.specs.Mend.{list_after_update}
 use Rattle.ts_series.proofs.Counting.{one_if, length-cons_if, times-length}
 use Rattle.ts_series.proofs.Mending.{count-updated_list}

@@ -8,10 +8,10 @@ use Rattle.ts_spec.specs.Rules.{raised}
 use Rattle.ts_spec.specs.State.{edge_of}
 use Rattle.ts_spec.specs.StoredUpdates.{high_after_rows}
 use Rattle.ts_spec.proofs.ClientChanges.{edge-raised}
-use Rattle.ts_sample.specs.Chunk.{joined}
+use Rattle.ts_sample.specs.Chunk.{joined, AreMade}
 use Rattle.ts_series.specs.Stored.{Stored, points, Change, replaced, pieces_after, IsChangeOf, IsReady, HasLimits}
 use Rattle.ts_series.specs.History.{History, list_of, low, limit_for}
-use Rattle.ts_series.specs.Plan.{Plan, AreMade, after, without_cut, chunk_capacity, IsForIn}
+use Rattle.ts_series.specs.Plan.{Plan, after, without_cut, chunk_capacity, IsForIn}
 use Rattle.ts_series.proofs.Edges.{from-edge}
 
 length-replaced : (start end : ℕ) (new old : List (List Point)) → start ≤ end → length (replaced start end new old) ≤ length old + length new

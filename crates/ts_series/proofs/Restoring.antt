@@ -11,7 +11,7 @@ use Rattle.ts_spec.specs.Valid.{Every, IsUpTo, IsOwn}
 use Rattle.ts_spec.proofs.Samples.{IsBefore, at-after, at-append, ascending-join, ascending-times}
 use Rattle.ts_spec.proofs.Settles.{times-within}
 use Rattle.ts_spec.proofs.Sound.{IsPart, part-times}
-use Rattle.ts_sample.specs.Chunk.{IsChunk, IsPast, joined}
+use Rattle.ts_sample.specs.Chunk.{IsChunk, IsPast, joined, AreMade}
 use Rattle.ts_sample.specs.Visit.{visited}
 use Rattle.ts_sample.proofs.Cuts.{joined-append}
 use Rattle.ts_sample.proofs.Lists.{ascending-right, past-before}
@@ -19,7 +19,6 @@ use Rattle.ts_chunk_packed.specs.Packed.{packed}
 use Rattle.ts_series.specs.declared.chunked_series_restoring.GreatestMade.{GreatestMade}
 use Rattle.ts_series.specs.Stored.{Stored, points, AreChunks, AreStoredChunks, IsTrimmed}
 use Rattle.ts_series.specs.History.{History, history_of, low, record_of, format_of, IsKeptIn}
-use Rattle.ts_series.specs.Plan.{AreMade}
 use Rattle.ts_series.specs.Restoring.{CanFollow, IsNextChunk, RestoresChunk, with_chunk}
 use Rattle.ts_series.proofs.Counting.{times-append}
 use Rattle.ts_series.proofs.Expired.{none-kept}
@@ -154,6 +153,10 @@ each-made most (q ∷ ps) made t p is = go (q.time == t) is (each-made most ps m
     go : (b : Bool) → cond b (Some q) (at t ps) ≡ Some p → (at t ps ≡ Some p → p.made ≤ most) → p.made ≤ most
     go true here later = (let same : q ≡ p = cc in subst (λ (r : Point). r.made ≤ most) same made.0)
     go false there later = later there
+
+-- a bound for all samples is one for those that are shown
+pub made-shown : (most born edge : ℕ) (ps : List Point) → IsAscending ps → AreMade most ps → most ≤ born → Every (λ p. p.made ≤ born) (at_times (nat_le edge) ps)
+made-shown most born edge ps up made few t p is = omega (arith, few, each-made most ps made t p ((part-times (nat_le edge) ps up).of t p is))
 
 all-made : (most : ℕ) (ps : List Point) → IsAscending ps → Every (λ p. p.made ≤ most) ps → AreMade most ps
 all-made most [] up each = tt

@@ -12,7 +12,7 @@ use Rattle.ts_spec.specs.StoredUpdates.{high_after_rows}
 use Rattle.ts_series.specs.declared.chunked_series_plan.Interval.{Interval}
 use Rattle.ts_series.specs.declared.chunked_series_plan.Rows.{Rows}
 use Rattle.ts_series.specs.declared.chunked_series_plan.Rows.TheVariants.{Empty, One, Many}
-use Rattle.ts_sample.specs.Chunk.{joined}
+use Rattle.ts_sample.specs.Chunk.{joined, AreMade}
 use Rattle.ts_series.specs.Stored.{Stored, Change, no_change, pieces_after, IsChangeOf, HasLimits}
 use Rattle.ts_series.specs.History.{History, list_of, low, limit_for, format_of}
 
@@ -26,11 +26,6 @@ row_samples (Many v) = v.items
 abbrev pub AreWithin : (from to : ℕ) → List Point → Type 0
 AreWithin from to [] = ⊤
 AreWithin from to (p ∷ ps) = (from ≤ p.time) × ((p.time ≤ to) × AreWithin from to ps)
-
--- every sample was written when at most `born` rules had been created
-abbrev pub AreMade : (born : ℕ) → List Point → Type 0
-AreMade born [] = ⊤
-AreMade born (p ∷ ps) = (p.made ≤ born) × AreMade born ps
 
 -- A plan: the interval to delete and the number of samples in it, the series' encoding, the samples to write, the new
 -- options if they change, the change of the chunks, and the capacity of the larger buffer if there is one.

@@ -3,6 +3,7 @@ ghost use Rattle.std.specs.Prelude.{◌≡◌, ◌↔◌, ◌≤◌, ◌<◌, �
 ghost use Rattle.std.specs.Prelude.{true, false, ◌≢◌};
 ghost use Rattle.ts_spec.specs.Sample.{at_times};
 ghost use Rattle.ts_spec.specs.Valid.{Every, IsUpTo};
+ghost use Rattle.ts_sample.specs.Chunk.{AreMade};
 ghost use Rattle.ts_series.specs.History.{list_of, low, IsKeptIn};
 ghost use Rattle.ts_series.specs.Restoring.{CanFollow, with_chunk};
 
@@ -39,8 +40,10 @@ impl<C: Chunk> ChunkedSeries<C> {
         }
     }
 
-    // Adds a chunk after the others if it can follow them, and returns whether it can.
-    pub(crate) fn restore_chunk(&mut self, chunk: C) -> Result<bool, AllocError>
+    // Adds a chunk after the others if it can follow them, and returns whether it can. Its samples were written when at
+    // most `made` rules had been created.
+    pub(crate) fn restore_chunk(&mut self, chunk: C, made: u32) -> Result<bool, AllocError>
+        requires { AreMade made (C.list chunk) }
         ensures follows { result ≡ Ok true → CanFollow self.old (C.list chunk) }
         ensures added { result ≡ Ok true
             → self.new ≡ with_chunk self.old (C.most chunk) (C.list chunk) self.new.held.room }
@@ -49,7 +52,7 @@ impl<C: Chunk> ChunkedSeries<C> {
         ensures options { self.new.options ≡ self.old.options }
         ensures kept { IsKeptIn C.format self.new }
     {
-        if !self.accepts(&chunk) {
+        if !self.accepts(&chunk, made) {
             return Ok(false);
         }
         chunk.known();
@@ -58,7 +61,8 @@ impl<C: Chunk> ChunkedSeries<C> {
     }
 
     // Whether a chunk can follow the others.
-    fn accepts(&self, chunk: &C) -> bool
+    fn accepts(&self, chunk: &C, made: u32) -> bool
+        requires { AreMade made (C.list chunk.now) }
         ensures { IsTrue result ↔ CanFollow self.now (C.list chunk.now) }
     {
         let Some(last) = chunk.last() else {
@@ -73,7 +77,7 @@ impl<C: Chunk> ChunkedSeries<C> {
         if !self.shows_first(chunk) {
             return false;
         }
-        were_made_by(chunk, self.edge(), self.born)
+        were_made_by(chunk, made, self.edge(), self.born)
     }
 
     // Whether there are chunks, or the series would show a sample of this one.
@@ -102,11 +106,14 @@ fn is_up_to(high: Option<u64>, time: u64) -> bool
     }
 }
 
-// Whether a chunk's samples at or after `from` were all written when at most `born` rules had been created.
-fn were_made_by<C: Chunk>(chunk: &C, from: u64, born: u32) -> bool
+// Whether a chunk's samples at or after `from` were all written when at most `born` rules had been created. It decodes
+// none if `made` says so of all samples.
+fn were_made_by<C: Chunk>(chunk: &C, made: u32, from: u64, born: u32) -> bool
+    requires { AreMade made (C.list chunk.now) }
     ensures { IsTrue result ↔ Every (λ p. p.made ≤ born) (at_times (nat_le from) (C.list chunk.now)) }
 {
-    greatest_made::<C, Brand>(chunk, from, Blank::new(1)) <= born
+    chunk.known();
+    made <= born || greatest_made::<C, Brand>(chunk, from, Blank::new(1)) <= born
 }
 
 // The greatest number of rules that any of a chunk's samples at or after `from` was written after, or 0.

@@ -2,11 +2,11 @@
 ghost use Rattle.std.specs.Prelude.{◌≡◌, ◌*◌, nat_lt, nat_le, length, IfOk};
 ghost use Rattle.ts_spec.specs.Sample.{IsAscending, at_times, between, outside, put_all};
 ghost use Rattle.ts_spec.specs.StoredUpdates.{high_after_rows};
-ghost use Rattle.ts_sample.specs.Chunk.{joined};
+ghost use Rattle.ts_sample.specs.Chunk.{joined, AreMade};
 ghost use Rattle.ts_sample.specs.Steps.{Takes};
 ghost use Rattle.ts_series.specs.Stored.{points, pieces_after, IsReady, HasLimits};
 ghost use Rattle.ts_series.specs.History.{list_of, limit_for, reach};
-ghost use Rattle.ts_series.specs.Plan.{AreWithin, AreMade, IsForIn, after, Cuts};
+ghost use Rattle.ts_series.specs.Plan.{AreWithin, IsForIn, after, Cuts};
 ghost use Rattle.ts_series.specs.Mend.{IsUpdateAnswer, IsRowPast, list_after_update};
 
 use crate::change::Change;

@@ -1,7 +1,7 @@
 // Copies chunks from one format into the other.
 ghost use Rattle.std.specs.Prelude.{◌≡◌, ◌≢◌, ◌<◌, List, [], length, IfOk, IfSome, IfNone};
 ghost use Rattle.ts_spec.specs.Sample.{Point};
-ghost use Rattle.ts_sample.specs.Chunk.{IsChunk, IsLimit};
+ghost use Rattle.ts_sample.specs.Chunk.{AreMade, IsChunk, IsLimit};
 ghost use Rattle.ts_chunk_packed.specs.Packed.{packed};
 ghost use Rattle.ts_chunk_plain.specs.Plain.{plain};
 
@@ -12,26 +12,40 @@ use ts_chunk_packed::PackedChunk;
 use ts_chunk_plain::PlainChunk;
 use ts_sample::{Chunk, Steps};
 
+// A plain chunk made from packed bytes, and the greatest rule count of its samples.
+#[derive(Drop)]
+pub(crate) struct UnpackedChunk {
+    pub(crate) chunk: PlainChunk,
+    pub(crate) made: u32,
+}
+
 // The plain chunk of this limit whose samples have these packed bytes, or `None` if there is none or it would be
 // empty. The bytes may be anything.
 pub(crate) fn unpacked(
     alloc: Global,
     limit: u32,
     bytes: &[u8],
-) -> Result<Option<PlainChunk>, AllocError>
+) -> Result<Option<UnpackedChunk>, AllocError>
     requires { IsLimit limit }
-    ensures limit { IfOk result (λ o. IfSome o (λ c. c.limit ≡ limit)) }
-    ensures bytes { IfOk result (λ o. IfSome o (λ c. packed c.list ≡ bytes.now)) }
-    ensures packs { IfOk result (λ o. IfSome o (λ c. IsChunk packed limit c.list)) }
+    ensures limit { IfOk result (λ o. IfSome o (λ r. r.chunk.limit ≡ limit)) }
+    ensures bytes { IfOk result (λ o. IfSome o (λ r. packed r.chunk.list ≡ bytes.now)) }
+    ensures packs { IfOk result (λ o. IfSome o (λ r. IsChunk packed limit r.chunk.list)) }
+    ensures made { IfOk result (λ o. IfSome o (λ r. AreMade r.made r.chunk.list)) }
     ensures none { IfOk result (λ o. IfNone o ((ps : List Point) → IsChunk packed limit ps → IsChunk plain limit ps
         → ps ≢ [] → packed ps ≡ bytes.now → ⊥)) }
 {
-    let Some(chunk) = PackedChunk::of_bytes(alloc, limit, bytes)? else {
+    let Some(packed) = PackedChunk::of_bytes(alloc, limit, bytes)? else {
         return Ok(None);
     };
-    chunk.known();
-    let copy = recoded::<PackedChunk, PlainChunk, Brand>(alloc, &chunk, Blank::new(1))?;
-    Ok(copy)
+    packed.chunk.known();
+    let copy = recoded::<PackedChunk, PlainChunk, Brand>(alloc, &packed.chunk, Blank::new(1))?;
+    let Some(chunk) = copy else {
+        return Ok(None);
+    };
+    Ok(Some(UnpackedChunk {
+        chunk,
+        made: packed.made,
+    }))
 }
 
 // The samples of a plain chunk in a packed one of the same limit. They always fit: a plain sample takes 28 bytes, and

@@ -2,10 +2,10 @@
 ghost use Rattle.std.specs.Prelude.{◌≡◌, ◌≤◌, ◌<◌, ◌+◌, ◌*◌, length, IfOk, IfSome, Ok};
 ghost use Rattle.ts_spec.specs.Sample.{MAX_TIME, IsAscending, between, last_of};
 ghost use Rattle.ts_spec.specs.declared.series.Merge.{Merge as TheMerge};
-ghost use Rattle.ts_sample.specs.Chunk.{IsPast};
+ghost use Rattle.ts_sample.specs.Chunk.{IsPast, AreMade};
 ghost use Rattle.ts_sample.specs.Steps.{Takes};
 ghost use Rattle.ts_series.specs.History.{list_of, reach, IsKept, KeepsLimits};
-ghost use Rattle.ts_series.specs.Plan.{IsFor, after, Cuts, Alters, AreWithin, AreMade, options_with};
+ghost use Rattle.ts_series.specs.Plan.{IsFor, after, Cuts, Alters, AreWithin, options_with};
 ghost use Rattle.ts_series.specs.Put.{met, PutAnswers};
 ghost use Rattle.ts_series.specs.Mend.{IsUpdateAnswer, IsRowPast};
 

@@ -122,11 +122,11 @@ fn restore_plain(
     ensures options { line.new.options ≡ line.old.options }
     ensures kept { IsKeptIn plain line.new }
 {
-    let Some(chunk) = unpacked(line.alloc, limit, bytes)? else {
+    let Some(restored) = unpacked(line.alloc, limit, bytes)? else {
         return Ok(false);
     };
-    chunk.known();
-    line.restore_chunk(chunk)
+    restored.chunk.known();
+    line.restore_chunk(restored.chunk, restored.made)
 }
 
 // Restores a chunk of a compressed series.
@@ -144,11 +144,11 @@ fn restore_packed(
     ensures options { line.new.options ≡ line.old.options }
     ensures kept { IsKeptIn packed line.new }
 {
-    let Some(chunk) = PackedChunk::of_bytes(line.alloc, limit, bytes)? else {
+    let Some(restored) = PackedChunk::of_bytes(line.alloc, limit, bytes)? else {
         return Ok(false);
     };
-    chunk.known();
-    line.restore_chunk(chunk)
+    restored.chunk.known();
+    line.restore_chunk(restored.chunk, restored.made)
 }
 
 /// A chunk's samples in the packed format.

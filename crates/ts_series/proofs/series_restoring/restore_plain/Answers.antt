@@ -6,5 +6,5 @@ use Rattle.ts_series.proofs.series_restoring.restore_plain.Goals as goal
 
 pub returns-clause-refused : goal.returns-clause-refused
 returns-clause-refused c = λ is.
-    let coded = subst (λ o. IfSome o (λ k. packed k.list ≡ c.args.bytes.now)) c.in-Some.is c.in_ok-chunk.ensures.bytes in
-    refuses c.args.line.now c.args.limit c.args.bytes.now c.in-Some.chunk.list coded (c.restore_chunk.ensures.refused is)
+    let coded = subst (λ o. IfSome o (λ k. packed k.chunk.list ≡ c.args.bytes.now)) c.in-Some.is c.in_ok-restored.ensures.bytes in
+    refuses c.args.line.now c.args.limit c.args.bytes.now c.in-Some.restored.chunk.list coded (c.restore_chunk.ensures.refused is)

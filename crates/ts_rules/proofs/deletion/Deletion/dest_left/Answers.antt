@@ -3,8 +3,9 @@ use Rattle.ts_spec.specs.Sample.{Point, IsAscending, between, is_within}
 use Rattle.ts_spec.specs.Bucket.{start}
 use Rattle.ts_spec.specs.Rules.{is_past}
 use Rattle.ts_spec.proofs.Buckets.{start-le}
+use Rattle.ts_sample.specs.Chunk.{AreMade}
 use Rattle.ts_series.specs.History.{list_of}
-use Rattle.ts_series.specs.Plan.{AreWithin, AreMade}
+use Rattle.ts_series.specs.Plan.{AreWithin}
 use Rattle.ts_series.proofs.TimeFor.{between-longer}
 use Rattle.ts_rules.specs.Plans.{IsUpdate}
 use Rattle.ts_rules.specs.Deletions.{span_left}

@@ -1,13 +1,13 @@
 use Rattle.std.proofs.Common.{◌-◌, ◌^◌, ◌<◌, drop, length}
 use Rattle.ts_chunk_packed.specs.Reading.{Begins}
-use Rattle.ts_chunk_packed.proofs.Ungrouping.{IsReading}
-use Rattle.ts_chunk_packed.proofs.untrusted.read_any.Given as goal
+use Rattle.ts_chunk_packed.proofs.Shortest.{IsPart}
+use Rattle.ts_chunk_packed.proofs.untrusted.read_wide.Given as goal
 
 abbrev pub invariant-loop-at : goal.invariant-loop-at
 invariant-loop-at l = record {
   small : l.number < l.weight;
   most : l.weight < 2 ^ 120;
-  reading : Begins (2 ^ 113) l.bytes → IsReading (2 ^ 113) l.bytes (drop l.at l.bytes) l.number l.weight;
+  part : IsPart l.bytes (drop l.at l.bytes) l.at l.number l.weight;
   light : Begins (2 ^ 113) l.bytes → l.weight < 2 ^ 113;
 }
 
