@@ -3,7 +3,7 @@ use crate::peer::Peer;
 use crate::streams::{read_two, write};
 use std::alloc::Global;
 use std::io;
-use test_script::{Device, Script, bytes_of, counted, done, number_of, shown, told};
+use test_script::{Device, Script, answer_of, bytes_of, counted, done, number_of, shown};
 use ts_io::{Batches, Failed, Source, write_all_counted};
 
 /// `Batches 7`: the peer takes up to seven bytes a send. Its other fields are 0 until `coming`, `silent` and `fails`
@@ -36,8 +36,8 @@ impl Device for PeerCalls {
             "coming" => self.peer.coming = number_of(text) as usize,
             "silent" => self.peer.silent = number_of(text),
             "fails" => self.peer.fails = true,
-            "taken" => return told(alloc, self.peer.taken.len()),
-            "sends" => return told(alloc, self.peer.sends),
+            "taken" => return answer_of(alloc, self.peer.taken.len()),
+            "sends" => return answer_of(alloc, self.peer.sends),
             "has" => return has(alloc, &self.peer.taken, text),
             _ => return Ok(None),
         }
@@ -47,7 +47,7 @@ impl Device for PeerCalls {
 
 fn has(alloc: Global, taken: &[u8], text: &str) -> io::Result<Option<String>> {
     let is_same = taken == bytes_of(alloc, text)?.as_slice();
-    told(alloc, is_same)
+    answer_of(alloc, is_same)
 }
 
 // The calls of sources and sinks, `waiting` and `send-all`.
@@ -60,7 +60,7 @@ impl Device for BatchCalls {
     fn answer(&mut self, alloc: Global, verb: &str, text: &str) -> io::Result<Option<String>> {
         match verb {
             "read" => read_two(alloc, &mut self.batches),
-            "waiting" => told(alloc, self.batches.waiting()),
+            "waiting" => answer_of(alloc, self.batches.waiting()),
             "send-all" => done(alloc, self.batches.send_all()),
             "write-blocks" => done(
                 alloc,

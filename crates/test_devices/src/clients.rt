@@ -3,7 +3,7 @@ use std::alloc::Global;
 use std::io;
 use std::io::{ErrorKind, Read, Write};
 use std::net::{Shutdown, TcpStream};
-use test_script::{Device, bytes_of, shown, silent, told};
+use test_script::{Device, answer_of, bytes_of, shown, silent};
 
 /// A client, until it leaves, and what it has received.
 #[derive(Drop)]
@@ -69,7 +69,7 @@ impl Device for ClientCalls {
             "leave" => self.stream = None,
             "hear" => self.hear_all()?,
             "heard" => return shown(alloc, &self.heard),
-            "heard-count" => return told(alloc, self.heard.len()),
+            "heard-count" => return answer_of(alloc, self.heard.len()),
             "heard-last" => return ends_with_last(alloc, &self.heard, text),
             _ => return Ok(None),
         }
@@ -80,5 +80,5 @@ impl Device for ClientCalls {
 fn ends_with_last(alloc: Global, heard: &[u8], text: &str) -> io::Result<Option<String>> {
     let bytes = bytes_of(alloc, text)?;
     let (_, last) = bytes.split_at(bytes.len().saturating_sub(1000));
-    told(alloc, heard.ends_with(last))
+    answer_of(alloc, heard.ends_with(last))
 }

@@ -3,7 +3,7 @@ use std::alloc::Global;
 use std::io;
 use std::io::ErrorKind;
 use std::time::SystemTime;
-use test_script::{Device, Script, numbers_of, told};
+use test_script::{Device, Script, answer_of, numbers_of};
 use ts_io::{Clock, MemClock, SystemClock};
 
 /// `MemClock 5 7`: has these readings. `now` is the next one.
@@ -20,7 +20,7 @@ struct ClockCalls<C> {
 impl<C: Clock> Device for ClockCalls<C> {
     fn answer(&mut self, alloc: Global, verb: &str, _text: &str) -> io::Result<Option<String>> {
         match verb {
-            "now" => told(alloc, self.clock.now()),
+            "now" => answer_of(alloc, self.clock.now()),
             _ => Ok(None),
         }
     }
@@ -32,7 +32,7 @@ pub(crate) fn system(rt: &HostRuntime, script: &mut Script) -> io::Result<()> {
     let time = u128::from(time_of(&mut SystemClock::new(rt)));
     let after = milliseconds(rt)?;
     let is_in_time = before <= time && time <= after;
-    script.check("is-in-time", told(script.alloc(), is_in_time)?)
+    script.check("is-in-time", answer_of(script.alloc(), is_in_time)?)
 }
 
 fn time_of<C: Clock>(clock: &mut C) -> u64 {

@@ -6,7 +6,7 @@ use std::fs::{File, Permissions};
 use std::os::unix::fs::{MetadataExt, PermissionsExt, symlink};
 use std::rt::Files;
 use std::{fs, io};
-use test_script::{Device, Script, bytes_of, number_of, shown, silent, told};
+use test_script::{Device, Script, answer_of, bytes_of, number_of, shown, silent};
 use ts_io::FileLog;
 
 /// `FileLog`: two logs over the files of the system, and these files.
@@ -92,8 +92,8 @@ impl Device for StagedCalls<'_> {
 fn on_files(rt: &HostRuntime, alloc: Global, verb: &str, text: &str) -> io::Result<Option<String>> {
     match verb {
         "bytes" => shown(alloc, &fs::read(rt, text)?),
-        "exists" => told(alloc, fs::exists(rt, text)?),
-        "is-link" => told(alloc, fs::symlink_metadata(rt, text)?.is_symlink()),
+        "exists" => answer_of(alloc, fs::exists(rt, text)?),
+        "is-link" => answer_of(alloc, fs::symlink_metadata(rt, text)?.is_symlink()),
         "mode" => mode(rt, alloc, text),
         _ => changes(rt, alloc, verb, text),
     }
@@ -101,7 +101,7 @@ fn on_files(rt: &HostRuntime, alloc: Global, verb: &str, text: &str) -> io::Resu
 
 fn mode(rt: &HostRuntime, alloc: Global, name: &str) -> io::Result<Option<String>> {
     let mode = fs::metadata(rt, name)?.mode() & 0o777;
-    told(alloc, format_args!("{mode:o}"))
+    answer_of(alloc, format_args!("{mode:o}"))
 }
 
 // The calls that change something: `file-write NAME BYTES`, `file-rename FROM TO`, `file-link TARGET NAME`, and with a

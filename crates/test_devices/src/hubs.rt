@@ -1,7 +1,9 @@
 // Hubs in memory.
 use std::alloc::{AllocError, Global};
 use std::io;
-use test_script::{Device, Script, done, number_of, numbers_of, push_bytes, shown, silent, told};
+use test_script::{
+    Device, Script, answer_of, done, number_of, numbers_of, push_bytes, shown, silent,
+};
 use ts_io::{Failed, Hub, MemHub, Next, Packet, Step};
 
 /// `MemHub 3 | 1:ask | pause | 1:`: fails at these calls, and then the steps: bytes of a link, or a pause.
@@ -56,8 +58,8 @@ impl Device for HubCalls {
 
 fn next(alloc: Global, outcome: Result<Next, Failed>) -> io::Result<Option<String>> {
     match outcome {
-        Ok(next) => told(alloc, format_args!("{next:?}")),
-        Err(_) => told(alloc, "failed"),
+        Ok(next) => answer_of(alloc, format_args!("{next:?}")),
+        Err(_) => answer_of(alloc, "failed"),
     }
 }
 

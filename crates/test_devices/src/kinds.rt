@@ -2,20 +2,27 @@
 use crate::{batches, clocks, files, hubs, logs, memory, network, queue};
 use std::io;
 use std::io::ErrorKind;
-use test_script::Script;
+use test_script::{Devices, Script};
 
-/// Runs the calls on the device in this line.
-pub(crate) fn run(rt: &HostRuntime, device: &str, script: &mut Script) -> io::Result<()> {
-    let (kind, text) = device.split_once(' ').unwrap_or((device, ""));
-    match kind {
-        "FileLog" => files::logs(rt, script),
-        "StagedFiles" => files::staged_logs(rt, script),
-        "TcpNet" => network::run(rt, script),
-        "SystemClock" => clocks::system(rt, script),
-        "MemClock" => clocks::in_memory(script, text),
-        "Batches" => batches::run(script, text),
-        "Waiting" => queue::run(script),
-        _ => run_in_memory(kind, text, script),
+/// The devices, with the runtime that they use.
+#[derive(Drop)]
+pub(crate) struct IoDevices<'a> {
+    pub(crate) rt: &'a HostRuntime,
+}
+
+impl Devices for IoDevices<'_> {
+    fn run(&self, device: &str, script: &mut Script) -> io::Result<()> {
+        let (kind, text) = device.split_once(' ').unwrap_or((device, ""));
+        match kind {
+            "FileLog" => files::logs(self.rt, script),
+            "StagedFiles" => files::staged_logs(self.rt, script),
+            "TcpNet" => network::run(self.rt, script),
+            "SystemClock" => clocks::system(self.rt, script),
+            "MemClock" => clocks::in_memory(script, text),
+            "Batches" => batches::run(script, text),
+            "Waiting" => queue::run(script),
+            _ => run_in_memory(kind, text, script),
+        }
     }
 }
 

@@ -2,8 +2,8 @@
 use std::alloc::Global;
 use std::io;
 use test_script::{
-    Device, Script, bytes_of, bytes_read, cause, counted, done, number_of, numbers_of, push_bytes,
-    shown, told,
+    Device, Script, answer_of, bytes_of, bytes_read, cause, counted, done, number_of, numbers_of,
+    push_bytes, shown,
 };
 use ts_io::{Failed, Gathered, Log, MemLog, append_all_counted, write_draft_all};
 
@@ -34,7 +34,7 @@ impl<J: Log> LogCalls<J> {
             first,
             second,
         ) else {
-            return told(alloc, "failed");
+            return answer_of(alloc, "failed");
         };
         let mut answer = format!(in alloc; "{count} ")?;
         push_bytes(&mut answer, &self.buf)?;

@@ -4,7 +4,7 @@ use crate::streams::{SinkCalls, SourceCalls, write};
 use std::alloc::Global;
 use std::io;
 use std::io::ErrorKind;
-use test_script::{Device, Script, bytes_of, counted, done, numbers_of, shown, told};
+use test_script::{Device, Script, answer_of, bytes_of, counted, done, numbers_of, shown};
 use ts_io::{CountSink, Ends, Listener, MemListener, MemSink, MemSource, Sink, StdSink, StdSource};
 
 /// `MemSource abc 2`: has these bytes, gives up to five of them a read, and fails at reads with these numbers.
@@ -51,8 +51,8 @@ struct CountSinkCalls {
 impl Device for CountSinkCalls {
     fn answer(&mut self, alloc: Global, verb: &str, text: &str) -> io::Result<Option<String>> {
         match verb {
-            "total" => told(alloc, self.sink.total()),
-            "errors" => told(alloc, self.sink.errors()),
+            "total" => answer_of(alloc, self.sink.total()),
+            "errors" => answer_of(alloc, self.sink.errors()),
             _ => write(alloc, &mut self.sink, verb, text),
         }
     }
@@ -77,8 +77,8 @@ pub(crate) fn listener(script: &mut Script, text: &str) -> io::Result<()> {
     script.check("write", counted(alloc, ends.out.write(b"out"))?)?;
     listener.close(ends);
     let is_refused = listener.accept().is_err();
-    script.check("refused", told(alloc, is_refused)?)?;
-    script.check("closed", told(alloc, listener.done().len())?)?;
+    script.check("refused", answer_of(alloc, is_refused)?)?;
+    script.check("closed", answer_of(alloc, listener.done().len())?)?;
     script.check("written", first_written(alloc, listener.done())?)
 }
 
@@ -129,7 +129,7 @@ struct FlakySinkCalls {
 impl Device for FlakySinkCalls {
     fn answer(&mut self, alloc: Global, verb: &str, text: &str) -> io::Result<Option<String>> {
         match verb {
-            "unacknowledged" => told(alloc, self.sink.unacknowledged()),
+            "unacknowledged" => answer_of(alloc, self.sink.unacknowledged()),
             _ => write(alloc, &mut self.sink, verb, text),
         }
     }

@@ -8,7 +8,7 @@ use std::alloc::Global;
 use std::io;
 use std::io::ErrorKind;
 use std::net::{TcpListener, TcpStream};
-use test_script::{Device, Script, done, number_of, silent, told};
+use test_script::{Device, Script, answer_of, done, number_of, silent};
 use ts_io::{
     Ends, Failed, Listener, Sink, Source, StdSink, StdSource, TcpNet, TcpReader, TcpWriter,
     write_all_counted,
@@ -54,15 +54,15 @@ struct LinkCalls {
     client: ClientCalls,
 }
 
-// The calls of sources and sinks, and those of the client. `reply 20000` writes so many replies; `write-fails 10000` is
-// whether one of so many writes fails; and `read-late 10000` reads as often, while the client reads what has come.
+// The calls of sources and sinks, and those of the client. `reply 20000` writes 20,000 replies. `write-fails 10000` is
+// whether one of 10,000 writes fails. `read-late 10000` reads 10,000 times, while the client reads what has come.
 impl Device for LinkCalls {
     fn answer(&mut self, alloc: Global, verb: &str, text: &str) -> io::Result<Option<String>> {
         match verb {
             "read" => read_two(alloc, &mut self.ends.input),
             "write" | "write-all" => write(alloc, &mut self.ends.out, verb, text),
             "reply" => done(alloc, reply(&mut self.ends.out, number_of(text))),
-            "write-fails" => told(alloc, write_fails(&mut self.ends.out, number_of(text))),
+            "write-fails" => answer_of(alloc, write_fails(&mut self.ends.out, number_of(text))),
             "read-late" => done(alloc, self.read_late(number_of(text))?),
             _ => self.client.answer(alloc, verb, text),
         }
@@ -70,7 +70,7 @@ impl Device for LinkCalls {
 }
 
 impl LinkCalls {
-    // Reads two bytes so often. In between, the client reads what the system has buffered so far.
+    // Reads two bytes this many times. In between, the client reads what the system has buffered.
     fn read_late(&mut self, count: u64) -> io::Result<Result<(), Failed>> {
         let mut room = [0; 65536];
         self.client.set_nonblocking(true)?;
@@ -90,7 +90,7 @@ fn reads_two<S: Source>(source: &mut S) -> bool {
     source.read(&mut buf) == Ok(2) && buf == *b"qq"
 }
 
-// Writes so many replies of a thousand bytes, from each to the next with one byte changed.
+// Writes this many replies of a thousand bytes. Each differs from the one before in one byte.
 fn reply<K: Sink>(sink: &mut K, count: u64) -> Result<(), Failed> {
     let mut reply = [0; 1000];
     for turn in 0..count {
@@ -100,7 +100,7 @@ fn reply<K: Sink>(sink: &mut K, count: u64) -> Result<(), Failed> {
     Ok(())
 }
 
-// Whether one of so many writes fails.
+// Whether one of this many writes fails.
 fn write_fails<K: Sink>(sink: &mut K, count: u64) -> bool {
     let mut fails = false;
     for _ in 0..count {

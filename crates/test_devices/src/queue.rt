@@ -1,7 +1,7 @@
 // A queue of bytes to send.
 use std::alloc::Global;
 use std::io;
-use test_script::{Device, Script, bytes_of, number_of, silent, told};
+use test_script::{Device, Script, answer_of, bytes_of, number_of, silent};
 use ts_io::Waiting;
 
 /// `Waiting`, an empty queue. Its calls are `push BYTES`, `len`, `drop-front 1` and `ends-with BYTES`.
@@ -18,13 +18,13 @@ struct QueueCalls {
 impl Device for QueueCalls {
     fn answer(&mut self, alloc: Global, verb: &str, text: &str) -> io::Result<Option<String>> {
         match verb {
-            "push" => told(alloc, self.waiting.push(&bytes_of(alloc, text)?).is_ok()),
-            "len" => told(alloc, self.waiting.len()),
+            "push" => answer_of(alloc, self.waiting.push(&bytes_of(alloc, text)?).is_ok()),
+            "len" => answer_of(alloc, self.waiting.len()),
             "drop-front" => {
                 drop_front(&mut self.waiting, number_of(text) as usize);
                 silent(alloc)
             }
-            "ends-with" => told(alloc, self.waiting.as_slice().ends_with(text.as_bytes())),
+            "ends-with" => answer_of(alloc, self.waiting.as_slice().ends_with(text.as_bytes())),
             _ => Ok(None),
         }
     }

@@ -4,7 +4,7 @@ use std::alloc::Global;
 use std::io;
 use std::io::{ErrorKind, Read, Write};
 use std::net::{Shutdown, TcpStream};
-use test_script::{bytes_of, number_of, shown, silent, told};
+use test_script::{answer_of, bytes_of, number_of, shown, silent};
 
 /// Clients, each until it leaves.
 #[derive(Drop)]
@@ -75,10 +75,10 @@ impl Clients {
             "leave" => self.leave(number),
             "hears" => {
                 let bytes = bytes_of(alloc, rest)?;
-                return told(alloc, self.hears(alloc, number, &bytes)?);
+                return answer_of(alloc, self.hears(alloc, number, &bytes)?);
             }
             "hears-all" => return shown(alloc, &hear_all(self.client(number)?, alloc)?),
-            "hears-nothing" => return told(alloc, hears_nothing(self.client(number)?)?),
+            "hears-nothing" => return answer_of(alloc, hears_nothing(self.client(number)?)?),
             _ => return Ok(None),
         }
         silent(alloc)

@@ -4,7 +4,7 @@ use crate::links::EchoCalls;
 use std::alloc::Global;
 use std::io;
 use std::io::Write;
-use test_script::{Device, Script, bytes_of, number_of, silent, told};
+use test_script::{Device, Script, answer_of, bytes_of, number_of, silent};
 use ts_io::Hub;
 
 const MANY: usize = 1000;
@@ -70,7 +70,7 @@ impl CrowdCalls<'_> {
         Ok(true)
     }
 
-    // Serves until so many bytes of each have come in all.
+    // Serves until this many bytes of each client have come, counted all together.
     fn serve_each(&mut self, count: u64) -> io::Result<()> {
         let total = self.calls.clients.count().saturating_mul(count as usize);
         self.calls.echo.serve(total)
@@ -105,7 +105,7 @@ impl CrowdCalls<'_> {
 
     // Calls on all clients: `each-sends BYTES`, `each-hears BYTES`, `each-hears-all BYTES` until the server closes, and
     // `all-leave`.
-    fn answer_of_all(
+    fn answer_on_all(
         &mut self,
         alloc: Global,
         verb: &str,
@@ -115,10 +115,10 @@ impl CrowdCalls<'_> {
         match verb {
             "each-sends" => self.calls.clients.send_each(&bytes)?,
             "each-hears" => {
-                return told(alloc, self.calls.clients.each_hears(alloc, &bytes)?);
+                return answer_of(alloc, self.calls.clients.each_hears(alloc, &bytes)?);
             }
             "each-hears-all" => {
-                return told(alloc, self.calls.clients.each_hears_all(alloc, &bytes)?);
+                return answer_of(alloc, self.calls.clients.each_hears_all(alloc, &bytes)?);
             }
             "all-leave" => self.calls.clients.leave_all(),
             "one-is-closed" => self.come_and_be_closed(&bytes)?,
@@ -128,18 +128,19 @@ impl CrowdCalls<'_> {
     }
 }
 
-// The calls of a hub and its clients, those above, `connect-many`, `digits-are-sent`, `digits-are-heard`, `serve-each
-// 15` until so many bytes of each have come, and `serve-until-each-closed`. `one-comes-and-goes` tells whether it was
-// served and its link reported as closed, and `one-is-closed ask` has one more client whose link is closed here.
+// The calls of a hub and its clients, those above, `connect-many`, `digits-are-sent`, `digits-are-heard`, and
+// `serve-until-each-closed`. `serve-each 15` serves until 15 bytes of each have come. `one-comes-and-goes` tells
+// whether it was served and its link reported as closed. `one-is-closed ask` has one more client whose link is closed
+// here.
 impl Device for CrowdCalls<'_> {
     fn answer(&mut self, alloc: Global, verb: &str, text: &str) -> io::Result<Option<String>> {
         match verb {
-            "connect-many" => told(alloc, self.connect_many()?),
+            "connect-many" => answer_of(alloc, self.connect_many()?),
             "digits-are-sent" => {
                 self.send_digits(alloc)?;
                 silent(alloc)
             }
-            "digits-are-heard" => told(alloc, self.hear_digits(alloc)?),
+            "digits-are-heard" => answer_of(alloc, self.hear_digits(alloc)?),
             "serve-each" => {
                 self.serve_each(number_of(text))?;
                 silent(alloc)
@@ -149,8 +150,8 @@ impl Device for CrowdCalls<'_> {
                 self.calls.echo.serve_until_closed(links)?;
                 silent(alloc)
             }
-            "one-comes-and-goes" => told(alloc, self.come_and_go(alloc)?),
-            _ => match self.answer_of_all(alloc, verb, text)? {
+            "one-comes-and-goes" => answer_of(alloc, self.come_and_go(alloc)?),
+            _ => match self.answer_on_all(alloc, verb, text)? {
                 Some(answer) => Ok(Some(answer)),
                 None => self.calls.answer(alloc, verb, text),
             },

@@ -3,7 +3,7 @@ use crate::clients::Clients;
 use crate::echo::{Echo, next_bytes, open_descriptors};
 use std::alloc::Global;
 use std::io;
-use test_script::{Device, Script, bytes_of, done, number_of, silent, told};
+use test_script::{Device, Script, answer_of, bytes_of, done, number_of, silent};
 use ts_io::{Failed, Hub, Next};
 
 /// Runs the calls on a hub and clients.
@@ -28,7 +28,7 @@ impl<'a> EchoCalls<'a> {
         })
     }
 
-    /// Connects so many clients more to the hub.
+    /// Connects this many more clients to the hub.
     pub(crate) fn connect(&mut self, count: u64) -> io::Result<()> {
         self.clients.connect(&self.echo, count)
     }
@@ -37,8 +37,8 @@ impl<'a> EchoCalls<'a> {
     // and how many those are.
     fn answer_on_echo(&mut self, alloc: Global, verb: &str) -> io::Result<Option<String>> {
         match verb {
-            "taken" => told(alloc, self.echo.taken),
-            "newest" => told(alloc, self.echo.newest),
+            "taken" => answer_of(alloc, self.echo.taken),
+            "newest" => answer_of(alloc, self.echo.newest),
             "closed" => closed(alloc, &self.echo),
             "last-closed" => last_closed(alloc, &self.echo),
             _ => Ok(None),
@@ -54,7 +54,7 @@ impl<'a> EchoCalls<'a> {
     ) -> io::Result<Option<String>> {
         match verb {
             "next" => next(alloc, self.echo.hub.next()),
-            "next-bytes" => told(alloc, next_bytes(&mut self.echo.hub).unwrap_or(0)),
+            "next-bytes" => answer_of(alloc, next_bytes(&mut self.echo.hub).unwrap_or(0)),
             "give" => done(alloc, give(alloc, &mut self.echo.hub, text)?),
             "let-out" => {
                 self.echo.hub.let_out();
@@ -68,8 +68,8 @@ impl<'a> EchoCalls<'a> {
         }
     }
 
-    // `serve 5`: the hub echoes until it has received so many bytes in all. `take 5` does the same and lets nothing
-    // out. `serve-until-closed 1`: until so many links have closed; `serve-until-open 2`: until so many more
+    // `serve 5`: the hub echoes until it has received five bytes since it began. `take 5` does the same and lets
+    // nothing out. `serve-until-closed 1` goes on until one link has closed, and `serve-until-open 2` until two more
     // descriptors are open than at first.
     fn serve(&mut self, alloc: Global, verb: &str, text: &str) -> io::Result<Option<String>> {
         let number = number_of(text) as usize;
@@ -103,8 +103,8 @@ impl Device for EchoCalls<'_> {
 /// What a hub received next.
 pub(crate) fn next(alloc: Global, outcome: Result<Next, Failed>) -> io::Result<Option<String>> {
     match outcome {
-        Ok(next) => told(alloc, format_args!("{next:?}")),
-        Err(_) => told(alloc, "failed"),
+        Ok(next) => answer_of(alloc, format_args!("{next:?}")),
+        Err(_) => answer_of(alloc, "failed"),
     }
 }
 
@@ -117,10 +117,10 @@ fn give<H: Hub>(alloc: Global, hub: &mut H, text: &str) -> io::Result<Result<(),
 
 fn closed(alloc: Global, echo: &Echo) -> io::Result<Option<String>> {
     let links = &echo.closed;
-    told(alloc, format_args!("{links:?}"))
+    answer_of(alloc, format_args!("{links:?}"))
 }
 
 fn last_closed(alloc: Global, echo: &Echo) -> io::Result<Option<String>> {
     let last = echo.closed.last();
-    told(alloc, format_args!("{last:?}"))
+    answer_of(alloc, format_args!("{last:?}"))
 }

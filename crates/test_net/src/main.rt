@@ -1,7 +1,5 @@
 //! Tests `ts_net` by a hub that echoes what it receives, with its clients in the same thread. The input has tests in
-//! the form of `test_script`, each ended by an empty line; `#` begins a comment. The devices and their calls stand in
-//! the modules; the n-th client has the n-th link. A test passes if each call has its answer; its name is then printed.
-//! Of any other, the name and what is wrong are printed to standard error, and the status is 1.
+//! the form of `test_script`. Each module says what calls its devices have. The n-th client has the n-th link.
 #![tactic(auto)]
 
 mod clients;
@@ -17,51 +15,29 @@ mod slow;
 use std::io;
 use std::io::ErrorKind;
 use std::process::ExitCode;
-use test_script::Script;
+use test_script::{Devices, Script, run_tests};
 
 fn main(rt: HostRuntime) -> io::Result<ExitCode> {
-    let alloc = rt.alloc();
-    let mut have_failed = false;
-    let mut lines = Vec::new(alloc);
-    for line in rt.lines(alloc) {
-        let line = line?;
-        if line.as_str().is_empty() {
-            have_failed |= !passes(&rt, &lines)?;
-            lines.clear();
-        } else if !line.as_str().starts_with('#') {
-            lines.push(line)?;
-        }
-    }
-    Ok(ExitCode::from(u8::from(have_failed)))
+    run_tests(&rt, &NetDevices { rt: &rt })
 }
 
-// Runs the test in these lines, and prints its outcome. Returns whether it passes. No lines do.
-fn passes(rt: &HostRuntime, lines: &[String]) -> io::Result<bool> {
-    let [name, device, calls @ ..] = lines else {
-        return Ok(lines.is_empty());
-    };
-    let mut script = Script::new(rt.alloc(), calls);
-    let outcome = run(rt, device.as_str(), &mut script);
-    match script.fault(outcome)? {
-        None => println!(rt; "{name}")?,
-        Some(fault) => {
-            eprintln!(rt; "{name}: {fault}")?;
-            return Ok(false);
-        }
-    }
-    Ok(true)
+// The devices, with the runtime that they use.
+#[derive(Drop)]
+struct NetDevices<'a> {
+    rt: &'a HostRuntime,
 }
 
-// Runs the calls on the device in this line.
-fn run(rt: &HostRuntime, device: &str, script: &mut Script) -> io::Result<()> {
-    match device {
-        "TcpHub" => hubs::run(rt, script),
-        "Echo" => links::run(rt, script),
-        "Echo in a crowd" => crowd::run(rt, script),
-        "Echo with few descriptors" => descriptors::run(rt, script),
-        "Echo of many bytes" => slow::run(rt, script),
-        "Rounds" => rounds::run(rt, script),
-        "Memory" => memory::run(rt, script),
-        _ => Err(io::Error::from(ErrorKind::InvalidInput)),
+impl Devices for NetDevices<'_> {
+    fn run(&self, device: &str, script: &mut Script) -> io::Result<()> {
+        match device {
+            "TcpHub" => hubs::run(self.rt, script),
+            "Echo" => links::run(self.rt, script),
+            "Echo in a crowd" => crowd::run(self.rt, script),
+            "Echo with few descriptors" => descriptors::run(self.rt, script),
+            "Echo of many bytes" => slow::run(self.rt, script),
+            "Rounds" => rounds::run(self.rt, script),
+            "Memory" => memory::run(self.rt, script),
+            _ => Err(io::Error::from(ErrorKind::InvalidInput)),
+        }
     }
 }

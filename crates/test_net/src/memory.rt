@@ -3,7 +3,7 @@ use crate::clients::Clients;
 use crate::echo::Echo;
 use std::io::ErrorKind;
 use std::{fs, io};
-use test_script::{Script, bytes_of, told};
+use test_script::{Script, answer_of, bytes_of};
 
 /// More pages of addresses than a program has. Only the checked build has this many; it does not free memory at once.
 const CHECKED_PAGES: usize = 268_435_456;
@@ -21,7 +21,7 @@ pub(crate) fn run(rt: &HostRuntime, script: &mut Script) -> io::Result<()> {
         come_and_go(rt, &mut echo)?;
     }
     let is_freed = pages(rt, 1)? < before.saturating_add(256);
-    script.check("is-freed", told(rt.alloc(), is_freed)?)
+    script.check("is-freed", answer_of(rt.alloc(), is_freed)?)
 }
 
 // A number of the file in which Linux says how many pages the process has: of addresses, and then of memory.

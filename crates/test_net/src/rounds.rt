@@ -3,11 +3,11 @@ use crate::clients::Clients;
 use crate::echo::Echo;
 use std::alloc::Global;
 use std::io;
-use test_script::{Device, Script, bytes_of, number_of, told};
+use test_script::{Device, Script, answer_of, bytes_of, number_of};
 use ts_io::Hub;
 
-/// The calls are `largest-is-at-most 163840 10`: whether the hub takes at most so many bytes between two pauses while
-/// this many clients send 40,000 bytes each, and have them back.
+/// The one call is `largest-is-at-most 163840 10`: whether the hub takes at most 163,840 bytes between two pauses,
+/// while ten clients send 40,000 bytes each and have them back.
 pub(crate) fn run(rt: &HostRuntime, script: &mut Script) -> io::Result<()> {
     script.run(&mut Rounds { rt })
 }
@@ -23,7 +23,7 @@ impl Device for Rounds<'_> {
         match verb {
             "largest-is-at-most" => {
                 let largest = largest_round(self.rt, number_of(links))?;
-                told(alloc, largest as u64 <= number_of(most))
+                answer_of(alloc, largest as u64 <= number_of(most))
             }
             _ => Ok(None),
         }
@@ -43,7 +43,7 @@ fn largest_round(rt: &HostRuntime, links: u64) -> io::Result<usize> {
     Ok(most)
 }
 
-// Echoes until so many bytes have come in all. Returns the most between two pauses.
+// Echoes until this many bytes have come. Returns the most between two pauses.
 fn serve(echo: &mut Echo, total: usize) -> io::Result<usize> {
     let mut most: usize = 0;
     for _ in 0..u64::MAX {

@@ -3,7 +3,7 @@ use crate::links::EchoCalls;
 use std::alloc::Global;
 use std::io;
 use std::io::{ErrorKind, Read, Write};
-use test_script::{Device, Script, bytes_of, number_of, silent, told};
+use test_script::{Device, Script, answer_of, bytes_of, number_of, silent};
 use ts_io::Hub;
 
 const MEBIBYTE: u64 = 1_048_576;
@@ -77,8 +77,8 @@ impl SlowCalls<'_> {
 impl Device for SlowCalls<'_> {
     fn answer(&mut self, alloc: Global, verb: &str, text: &str) -> io::Result<Option<String>> {
         match verb {
-            "ask" => told(alloc, self.ask(alloc)?),
-            "closes-after-more-than" => told(
+            "ask" => answer_of(alloc, self.ask(alloc)?),
+            "closes-after-more-than" => answer_of(
                 alloc,
                 self.give_until_closed(alloc, number_of(text))?,
             ),

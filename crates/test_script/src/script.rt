@@ -47,7 +47,9 @@ impl<'a> Script<'a> {
 
     // Makes the call in a line. Returns whether the device has it.
     fn step<D: Device>(&mut self, device: &mut D, line: &str) -> io::Result<bool> {
-        let (times, rest) = times_of(line);
+        let Some((times, rest)) = times_of(line) else {
+            return Ok(false);
+        };
         let (call, wanted) = rest.split_once(" = ").unwrap_or((rest, ""));
         let (verb, text) = call.split_once(' ').unwrap_or((call, ""));
         for _ in 0..times {
@@ -91,11 +93,11 @@ fn after_first(calls: &[String]) -> &[String] {
     }
 }
 
-// How often the call of a line is made, and the rest of the line.
-fn times_of(line: &str) -> (u64, &str) {
+// How often the call of a line is made, and the rest of the line. `None` if the count is not a number.
+fn times_of(line: &str) -> Option<(u64, &str)> {
     match line.split_once(" times: ") {
-        Some((times, rest)) => (times.parse::<u64>().unwrap_or(0), rest),
-        None => (1, line),
+        Some((count, rest)) => Some((count.parse::<u64>().ok()?, rest)),
+        None => Some((1, line)),
     }
 }
 

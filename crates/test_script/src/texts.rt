@@ -5,7 +5,7 @@ use std::io;
 use ts_io::{Cause, Failed};
 
 /// An answer that has this text.
-pub fn told<D: Display + Drop>(alloc: Global, value: D) -> io::Result<Option<String>> {
+pub fn answer_of<D: Display + Drop>(alloc: Global, value: D) -> io::Result<Option<String>> {
     Ok(Some(format!(in alloc; "{value}")?))
 }
 
@@ -16,14 +16,14 @@ pub fn silent(alloc: Global) -> io::Result<Option<String>> {
 
 /// `ok` or `failed`.
 pub fn done(alloc: Global, outcome: Result<(), Failed>) -> io::Result<Option<String>> {
-    told(alloc, if outcome.is_ok() { "ok" } else { "failed" })
+    answer_of(alloc, if outcome.is_ok() { "ok" } else { "failed" })
 }
 
 /// A count, or `failed`.
 pub fn counted(alloc: Global, outcome: Result<usize, Failed>) -> io::Result<Option<String>> {
     match outcome {
-        Ok(count) => told(alloc, count),
-        Err(_) => told(alloc, "failed"),
+        Ok(count) => answer_of(alloc, count),
+        Err(_) => answer_of(alloc, "failed"),
     }
 }
 
@@ -34,7 +34,7 @@ pub fn bytes_read(
     buf: &[u8],
 ) -> io::Result<Option<String>> {
     let Ok(count) = outcome else {
-        return told(alloc, "failed");
+        return answer_of(alloc, "failed");
     };
     let mut text = format!(in alloc; "{count} ")?;
     push_bytes(&mut text, buf)?;
@@ -45,7 +45,7 @@ pub fn bytes_read(
 pub fn cause(alloc: Global, cause: Option<Cause>) -> io::Result<Option<String>> {
     match cause {
         Some(cause) => Ok(Some(format!(in alloc; "{cause:?}")?)),
-        None => told(alloc, "none"),
+        None => answer_of(alloc, "none"),
     }
 }
 
