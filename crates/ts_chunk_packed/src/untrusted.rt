@@ -151,9 +151,26 @@ fn made_after(context: &Context, number: u128) -> Option<u32>
 }
 
 // Reads the first number of `bytes`. Returns it and the remaining bytes, or `None` if it does not end within 17 bytes
-// or takes more bytes than it needs. A number of up to nine bytes is read in 64 bits.
+// or takes more bytes than it needs. A number of one byte needs no loop.
 #[inline(always)]
 fn read_number(bytes: &[u8]) -> Option<(u128, &[u8])>
+    ensures is { IfSome result (λ r. bytes.now ≡ number r.0 ++ r.1.now) }
+    ensures small { IfSome result (λ r. r.0 < 2 ^ 120) }
+    ensures none { IfNone result (Begins (2 ^ 113) bytes.now → ⊥) }
+{
+    if bytes.is_empty() {
+        return None;
+    }
+    let first = bytes[0];
+    if first < 128 {
+        return Some((first as u128, &bytes[1..]));
+    }
+    read_long(bytes)
+}
+
+// Reads a number of up to nine bytes in 64 bits.
+#[inline(always)]
+fn read_long(bytes: &[u8]) -> Option<(u128, &[u8])>
     ensures is { IfSome result (λ r. bytes.now ≡ number r.0 ++ r.1.now) }
     ensures small { IfSome result (λ r. r.0 < 2 ^ 120) }
     ensures none { IfNone result (Begins (2 ^ 113) bytes.now → ⊥) }

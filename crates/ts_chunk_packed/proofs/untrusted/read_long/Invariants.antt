@@ -1,6 +1,6 @@
 use Rattle.std.proofs.Common.{◌-◌, ◌^◌, ◌<◌, ◌≤◌, drop, length}
 use Rattle.ts_chunk_packed.proofs.Shortest.{IsPart}
-use Rattle.ts_chunk_packed.proofs.untrusted.read_number.Given as goal
+use Rattle.ts_chunk_packed.proofs.untrusted.read_long.Given as goal
 
 abbrev pub invariant-loop-at : goal.invariant-loop-at
 invariant-loop-at l = record {
