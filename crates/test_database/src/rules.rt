@@ -1,150 +1,138 @@
-// Compaction rules over two series: the effect of a write or a deletion in the source of a rule.
-use crate::rules::case::{ActualEffect, Case, Change, EMPTY, has_expected_effect};
-use std::marker::Brand;
-use std::sync::ledger::Blank;
-use std::test::*;
+// A rule that sums buckets of ten milliseconds: what a change of its source means for it and its destination.
+ghost use Rattle.std.specs.Prelude.{◌≡◌, ◌≤◌, length, is_some, true, IfOk, IfSome};
+ghost use Rattle.ts_series.specs.History.{list_of};
+ghost use Rattle.ts_rules.specs.Plans.{IsForDest};
 
-pub(crate) mod case;
+use crate::open_bucket::OpenBucket;
+use crate::texts::{fault_text, last_text, pair_of, sample_of, samples_text};
+use crate::writes::{count_rule, empty, write_all};
+use std::alloc::Global;
+use std::io;
+use std::sync::ledger::Ledger;
+use test_script::{Device, silent};
+use ts_agg::Aggregator;
+use ts_bucket::Grid;
+use ts_rules::{Rule, RuleFault, RulePlan, latest, plan_delete, plan_put};
+use ts_sample::{Id, MAX_TIME, SampleCollector, Steps};
+use ts_series::{Series, SeriesPlan};
 
-#[test]
-fn writes(rt: HostRuntime) {
-    let closed = Case {
-        source: &[(1, 5), (2, 6), (11, 1)],
-        current: Some(10),
-        counted: &[1],
-        dest: &[(0, 11)],
-        ..EMPTY
-    };
-    let cases = [
-        EMPTY,
-        Case {
-            source: &[(1, 5)],
-            current: Some(0),
-            counted: &[5],
-            change: Change::Write(2, 6),
-            expected_effect: ActualEffect::Shown(&[], Some((0, 11))),
-            ..EMPTY
-        },
-        Case {
-            source: &[(1, 5), (2, 6)],
-            current: Some(0),
-            counted: &[5, 6],
-            change: Change::Write(11, 1),
-            expected_effect: ActualEffect::Shown(&[(0, 11)], Some((10, 1))),
-            ..EMPTY
-        },
-        Case {
-            change: Change::Write(3, 4),
-            expected_effect: ActualEffect::Shown(&[(0, 15)], Some((10, 1))),
-            ..closed
-        },
-        Case {
-            change: Change::Write(2, 1),
-            expected_effect: ActualEffect::Shown(&[(0, 6)], Some((10, 1))),
-            ..closed
-        },
-        Case {
-            dest: &[],
-            change: Change::Write(2, 1),
-            expected_effect: ActualEffect::Shown(&[(0, 6)], Some((10, 1))),
-            ..closed
-        },
-        Case {
-            change: Change::Write(10, 2),
-            expected_effect: ActualEffect::Shown(&[(0, 11)], Some((10, 3))),
-            ..closed
-        },
-        Case {
-            earlier: &[(1, 100)],
-            source: &[(2, 5), (10, 0)],
-            dest: &[(0, 5)],
-            change: Change::Write(3, 3),
-            expected_effect: ActualEffect::Shown(&[(0, 8)], Some((10, 1))),
-            ..closed
-        },
-        Case {
-            dest: &[(100, 1)],
-            limit: 1,
-            change: Change::Write(21, 1),
-            expected_effect: ActualEffect::Full,
-            ..closed
-        },
-    ];
-    for case in cases {
-        assert!(rt; has_expected_effect::<Brand>(rt.alloc(), Blank::new(1), &case) == Some(true));
+/// `Rule 4`: the destination may have four samples. Both series have none, and no bucket is open.
+#[derive(Drop)]
+pub(crate) struct RuleCalls<L: Ledger> {
+    alloc: Global,
+    source: Series,
+    dest: Series,
+    open: OpenBucket,
+    limit: u32,
+    steps: Steps<L>,
+}
+
+// `earlier 1:5`, `source 2:6` and `dest 0:11` write samples: in the source before the rule is created and after, and in
+// the destination. `open 10 5 6` is the start of the open bucket and the values that it counts. `write 3:4` and
+// `delete 1 2` change the source. The answer is what the destination then has, its latest row, and its id in the rule.
+impl<L: Ledger> Device for RuleCalls<L> {
+    fn answer(&mut self, alloc: Global, verb: &str, text: &str) -> io::Result<Option<String>> {
+        match verb {
+            "earlier" => write_all(alloc, &mut self.source, text, &mut self.steps),
+            "source" => {
+                count_rule(&mut self.source);
+                write_all(alloc, &mut self.source, text, &mut self.steps)
+            }
+            "dest" => write_all(alloc, &mut self.dest, text, &mut self.steps),
+            "open" => {
+                self.open = OpenBucket::of(alloc, text)?;
+                silent(alloc)
+            }
+            "write" => self.write(text),
+            "delete" => self.delete(text),
+            _ => Ok(None),
+        }
     }
 }
 
-#[test]
-fn deletions(rt: HostRuntime) {
-    let case = Case {
-        source: &[(1, 1), (12, 1), (25, 1), (31, 1)],
-        current: Some(30),
-        counted: &[1],
-        dest: &[(0, 1), (10, 1), (15, 9), (20, 1)],
-        ..EMPTY
-    };
-    let cases = [
-        Case {
-            change: Change::Delete(5, 25),
-            expected_effect: ActualEffect::Shown(&[(0, 1), (15, 9)], Some((30, 1))),
-            ..case
-        },
-        Case {
-            dest: &[(0, 99), (10, 1), (20, 1)],
-            change: Change::Delete(5, 15),
-            expected_effect: ActualEffect::Shown(&[(0, 99), (20, 1)], Some((30, 1))),
-            ..case
-        },
-        Case {
-            source: &[(1, 1), (2, 3), (12, 1), (25, 1), (27, 4), (31, 1)],
-            change: Change::Delete(2, 25),
-            expected_effect: ActualEffect::Shown(&[(0, 1), (15, 9), (20, 4)], Some((30, 1))),
-            ..case
-        },
-        Case {
-            change: Change::Delete(31, 31),
-            expected_effect: ActualEffect::Shown(&[(0, 1), (10, 1), (15, 9), (20, 1)], None),
-            ..case
-        },
-        Case {
-            change: Change::Delete(25, 1),
-            expected_effect: ActualEffect::Shown(
-                &[(0, 1), (10, 1), (15, 9), (20, 1)],
-                Some((30, 1)),
-            ),
-            ..case
-        },
-        Case {
-            change: Change::Delete(0, u64::MAX),
-            expected_effect: ActualEffect::Shown(&[(15, 9)], None),
-            ..case
-        },
-        Case {
-            source: &[(1, 1), (35, 1)],
-            dest: &[(0, 1), (10, 7), (20, 8)],
-            change: Change::Delete(0, 29),
-            expected_effect: ActualEffect::Shown(&[(10, 7), (20, 8)], Some((30, 1))),
-            ..case
-        },
-        Case {
-            source: &[(1, 1), (12, 1)],
-            current: Some(10),
-            dest: &[(0, 1)],
-            change: Change::Delete(1, 35),
-            expected_effect: ActualEffect::Shown(&[], None),
-            ..case
-        },
-        Case {
-            source: &[(1, 1), (2, 3), (12, 1), (31, 1)],
-            dest: &[(10, 1)],
-            limit: 1,
-            change: Change::Delete(1, 1),
-            expected_effect: ActualEffect::Full,
-            ..case
-        },
-    ];
-    for case in cases {
-        assert!(rt; has_expected_effect::<Brand>(rt.alloc(), Blank::new(1), &case) == Some(true));
+impl<L: Ledger> RuleCalls<L> {
+    pub(crate) fn new(alloc: Global, limit: u32, steps: Steps<L>) -> Self {
+        RuleCalls {
+            alloc,
+            source: empty(alloc),
+            dest: empty(alloc),
+            open: OpenBucket::none(alloc),
+            limit,
+            steps,
+        }
+    }
+
+    // The rule, if the destination is within its limit.
+    fn rule(&mut self) -> Option<Rule>
+        ensures limit { is_some result ≡ true → length (list_of self.new.dest) ≤ self.new.limit }
+        ensures count { IfSome result (λ rule. rule.running.count ≤ 100) }
+    {
+        count_rule(&mut self.source);
+        if self.dest.len(&mut self.steps) > self.limit as usize {
+            return None;
+        }
+        rule_with(&self.open)
+    }
+
+    fn write(&mut self, text: &str) -> io::Result<Option<String>> {
+        let (Some(rule), Some(sample)) = (self.rule(), sample_of(text)) else {
+            return Ok(None);
+        };
+        let (source, dest, limit) = (&self.source, &self.dest, self.limit);
+        let planned = plan_put(&rule, source, &sample, dest, limit, &mut self.steps);
+        self.carry_out(planned)
+    }
+
+    fn delete(&mut self, text: &str) -> io::Result<Option<String>> {
+        let (Some(rule), Some((from, to))) = (self.rule(), pair_of(text)) else {
+            return Ok(None);
+        };
+        let (source, dest, limit) = (&self.source, &self.dest, self.limit);
+        let steps = &mut self.steps;
+        let planned = plan_delete(self.alloc, &rule, source, from, to, dest, limit, steps);
+        self.carry_out(planned)
+    }
+
+    fn carry_out(&mut self, planned: Result<RulePlan, RuleFault>) -> io::Result<Option<String>>
+        requires { IfOk planned (λ plan. IsForDest plan.dest self.old.dest) }
+    {
+        match planned {
+            Ok(RulePlan { rule, dest }) => {
+                commit(&mut self.dest, dest);
+                self.shown(&rule)
+            }
+            Err(fault) => fault_text(self.alloc, &fault),
+        }
+    }
+
+    fn shown(&mut self, rule: &Rule) -> io::Result<Option<String>> {
+        let room = self.dest.room_for(0, MAX_TIME);
+        let mut gathered = SampleCollector::with_reserved(self.alloc, room)?;
+        self.dest.scan(0, MAX_TIME, &mut gathered, &mut self.steps);
+        let samples = samples_text(self.alloc, &gathered.into_samples())?;
+        let latest = last_text(self.alloc, latest(rule, self.dest.born()))?;
+        let id = rule.dest.0;
+        Ok(Some(format!(in self.alloc; "{samples}, latest {latest}, into {id}")?))
+    }
+}
+
+fn rule_with(open: &OpenBucket) -> Option<Rule>
+    ensures { IfSome result (λ rule. rule.running.count ≤ 100) }
+{
+    Some(Rule {
+        dest: Id(7),
+        agg: Aggregator::Sum,
+        grid: Grid::new(0, 10)?,
+        made: 1,
+        current: open.start(),
+        running: open.running()?,
+    })
+}
+
+fn commit(dest: &mut Series, plan: Option<SeriesPlan>)
+    requires { IsForDest plan dest.old }
+{
+    if let Some(plan) = plan {
+        dest.commit(plan);
     }
 }

@@ -1,4 +1,0 @@
-use Rattle.test_database.proofs.db.refused.a_series_is_full_and_then_a_destination.Given as goal
-
-abbrev pub ghosts-wrong : goal.ghosts-wrong
-ghosts-wrong g a = record { name = a.blank.name; parts = a.blank.parts }

@@ -1,5 +1,0 @@
-use Rattle.std.proofs.Common.{◌≤◌}
-use Rattle.test_database.proofs.restored.parts.summed.Given as goal
-
-abbrev pub invariant-loop-millionths : goal.invariant-loop-millionths
-invariant-loop-millionths l = l.running.count ≤ l.millionths-index
