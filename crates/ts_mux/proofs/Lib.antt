@@ -1,10 +1,12 @@
 pub mod Apart
 pub mod CaptureLemmas
 pub mod CapturesAtWork
+pub mod Changes
 pub mod ClosedLinks
 pub mod Closing
 pub mod Closings
 pub mod Delivery
+pub mod Feeding
 pub mod FramingLemmas
 pub mod FramesReadBack
 pub mod LostFrames
@@ -12,5 +14,7 @@ pub mod MuxLemmas
 pub mod OneConnection
 pub mod OrderAtWork
 pub mod OrderLemmas
-pub mod Readers
+pub mod OwnReaders
+pub mod Starting
+pub mod Streams
 pub mod Unsent

@@ -1,15 +1,12 @@
 -- Lemmas about the frames of a connection that is closed.
 use Rattle.std.proofs.Common.{◌≡◌, ℕ, Bool, true, ◌==◌, if◌then◌else◌, List, [], ◌∷◌, ◌++◌, Option, None, refl, sym, ap, ◌∙◌, subst}
 use Rattle.std.proofs.lemmas.Bool.{eqb-true, eq-eqb}
-use Rattle.std.specs.BTreeMap.{BTreeMap}
 use Rattle.std.specs.Prelude.{Result, Ok, Err, OnErr}
-use Rattle.ts_spec.specs.Wire.{Request}
-use Rattle.ts_spec.specs.declared.wire.WireLimits.{WireLimits}
-use Rattle.ts_resp.specs.Reading.{Reading}
+use Rattle.ts_spec.specs.Wire.{Request, Stream}
 use Rattle.ts_mux.specs.declared.frame.Frame.{Frame}
 use Rattle.ts_mux.specs.declared.current_connection.CurrentConnection.{CurrentConnection}
 use Rattle.ts_mux.specs.declared.mux.Mux.{Mux}
-use Rattle.ts_mux.specs.ClosedLinks.{is_closed}
+use Rattle.ts_mux.specs.ClosedLinks.{is_closed, stream_of_link}
 use Rattle.ts_mux.specs.Muxing.{pending_items}
 use Rattle.ts_mux.specs.Order.{Event, Connection, Item, new_events_of, up_to_close, after_bytes, items_of, with_link, items_from, without, never_closes}
 use Rattle.ts_mux.specs.Links.{connections, pending_of_current, pending_items_of}
@@ -46,17 +43,17 @@ module _ (closes : Request → Bool) (link : ℕ) where
           ∙ closed at apart before bytes
 
 -- the same for the pending items of a `Mux`
-pub without_lost : (limits : WireLimits) (closed : ℕ → Bool) (readers : BTreeMap ℕ Reading) (current_connection : Option CurrentConnection) (link : ℕ) (bytes : List ℕ) (frames : List Frame)
-    → without link (pending_items_of limits closed readers current_connection frames)
-    ≡ without link (pending_items_of limits closed readers current_connection (record { link = link; bytes = bytes } ∷ frames))
-without_lost limits closed readers current_connection link bytes frames =
-    without-append link (pending_of_current current_connection) (items_from never_closes (connections limits closed readers current_connection) frames)
-    ∙ ap (λ items. without link (pending_of_current current_connection) ++ items)
-    (sym (without-frame never_closes link (connections limits closed readers current_connection) (record { link = link; bytes = bytes }) frames (eq-eqb link link refl)))
-    ∙ sym (without-append link (pending_of_current current_connection) (items_from never_closes (connections limits closed readers current_connection) (record { link = link; bytes = bytes } ∷ frames)))
+pub without_lost : (closed : ℕ → Bool) (streams : ℕ → List ℕ → Stream) (current : Option CurrentConnection) (link : ℕ) (bytes : List ℕ) (frames : List Frame)
+    → without link (pending_items_of closed streams current frames)
+    ≡ without link (pending_items_of closed streams current (record { link = link; bytes = bytes } ∷ frames))
+without_lost closed streams current link bytes frames =
+    without-append link (pending_of_current streams current) (items_from never_closes (connections closed streams) frames)
+    ∙ ap (λ items. without link (pending_of_current streams current) ++ items)
+    (sym (without-frame never_closes link (connections closed streams) (record { link = link; bytes = bytes }) frames (eq-eqb link link refl)))
+    ∙ sym (without-append link (pending_of_current streams current) (items_from never_closes (connections closed streams) (record { link = link; bytes = bytes } ∷ frames)))
 
 pub lost_frame : (m : Mux) (link : ℕ) (bytes : List ℕ) (frames : List Frame) → without link (pending_items m frames) ≡ without link (pending_items m (record { link = link; bytes = bytes } ∷ frames))
-lost_frame m link bytes frames = without_lost m.limits (is_closed m.closed) m.readers m.current_connection link bytes frames
+lost_frame m link bytes frames = without_lost (is_closed m.open_connections) (stream_of_link m.limits m.open_connections) m.current_connection link bytes frames
 
 -- what holds also holds on an error
 pub on_err : {T E P : Type 0} (result : Result T E) → P → OnErr result P

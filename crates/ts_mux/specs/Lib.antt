@@ -5,4 +5,5 @@ pub mod Links
 pub mod Muxing
 pub mod NextFrames
 pub mod Order
+pub mod OwnReaders
 pub mod Turns

@@ -19,32 +19,23 @@ pub enum Turn {
 }
 
 // The connection whose frame was delivered last.
-#[derive(Drop)]
+#[derive(Clone, Copy)]
 pub(crate) struct CurrentConnection {
     pub(crate) link: u64,
-    pub(crate) reader: Reader,
+    // the index of its reader
+    pub(crate) index: usize,
 }
 
-impl CurrentConnection {
-    // Takes back the vector of a handled request, to use its capacity again.
-    pub(crate) fn give_back(&mut self, words: Vec<Word>)
-        ensures { self.new ≡ self.old }
-    {
-        self.reader.give_back(words);
-    }
-
-    // Returns the next request or error of the connection.
-    pub(crate) fn next(&mut self) -> Turn
-        ensures says { IsNextOfReader result self.old.link self.old.reader self.new.reader }
-        ensures words { IfRequest result (λ words. words ≢ []) }
-        ensures link { self.new.link ≡ self.old.link }
-        ensures fed { fed self.new.reader ≡ fed self.old.reader }
-    {
-        match self.reader.next() {
-            Next::Request(words) => Turn::Request(self.link, words),
-            Next::NotYet => Turn::NotYet,
-            Next::Broken(protocol) => Turn::Fault(self.link, protocol),
-            Next::Memory => Turn::Memory,
-        }
+// Returns the next request or error of a connection, whose reader this is.
+pub(crate) fn next_turn(link: u64, reader: &mut Reader) -> Turn
+    ensures says { IsNextOfReader result link reader.old reader.new }
+    ensures words { IfRequest result (λ words. words ≢ []) }
+    ensures fed { fed reader.new ≡ fed reader.old }
+{
+    match reader.next() {
+        Next::Request(words) => Turn::Request(link, words),
+        Next::NotYet => Turn::NotYet,
+        Next::Broken(protocol) => Turn::Fault(link, protocol),
+        Next::Memory => Turn::Memory,
     }
 }

@@ -1,13 +1,13 @@
 //! Interleaved connections: parses the frames of a capture, and yields the requests of all connections in order.
 #![tactic(auto)]
 
-mod closed;
 mod current_connection;
 mod frame;
 mod frame_progress;
 mod frames;
 mod laws;
 mod mux;
+mod open_connections;
 
 pub use current_connection::Turn;
 pub use frame::{Frame, Header};

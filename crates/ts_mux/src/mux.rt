@@ -2,14 +2,14 @@
 ghost use Rattle.std.specs.Prelude.{◌≡◌, ◌≢◌, ℕ, ◌+◌, ◌^◌, ◌<◌, ◌≤◌, List, [], ◌∷◌, length};
 ghost use Rattle.std.specs.Prelude.{OnOk, OnErr};
 ghost use Rattle.ts_mux.specs.declared.frame.Frame.{Frame};
-ghost use Rattle.ts_mux.specs.Links.{AreDrained, AreFedAtMost, bytes_fed_to_current, current_without, end_of_current};
+ghost use Rattle.ts_mux.specs.ClosedLinks.{index_of, stream_of_link, fed_to_link};
+ghost use Rattle.ts_mux.specs.Links.{AreDrained, AreFedAtMost, HasIndex, current_without};
 
-use crate::closed::Closed;
 use crate::current_connection::CurrentConnection;
+use crate::open_connections::OpenConnections;
 use crate::{Frame, Turn};
 use std::alloc::{AllocError, Global};
-use std::collections::BTreeMap;
-use ts_resp::{Reader, Word};
+use ts_resp::Word;
 use ts_spec::WireLimits;
 
 mod delivery;
@@ -20,9 +20,8 @@ mod delivery;
 pub struct Mux {
     alloc: Global,
     limits: WireLimits,
-    closed: Closed,
-    // the readers of the open connections that have sent bytes; the current connection's may be a fresh one here
-    readers: BTreeMap<u64, Reader>,
+    open_connections: OpenConnections,
+    // the connection whose frame was delivered last, if it is open
     current_connection: Option<CurrentConnection>,
     // how many bytes were delivered
     delivered: u64,
@@ -30,10 +29,9 @@ pub struct Mux {
     ghost word_bytes: { 1 ≤ limits.word_bytes },
     ghost request_bytes: { 1 ≤ limits.request_bytes },
     ghost line_bytes: { 1 ≤ limits.line_bytes },
-    ghost asked: { AreDrained readers },
-    ghost within: { AreFedAtMost delivered readers },
-    ghost current_within: { bytes_fed_to_current current_connection ≤ delivered },
-    ghost reached: { end_of_current current_connection ≤ closed.reached },
+    ghost drained: { AreDrained current_connection (stream_of_link limits open_connections) },
+    ghost within: { AreFedAtMost delivered (fed_to_link open_connections) },
+    ghost index: { HasIndex (index_of open_connections) current_connection },
 }
 
 impl Mux {
@@ -53,8 +51,7 @@ impl Mux {
         Mux {
             alloc,
             limits,
-            closed: Closed::new(alloc),
-            readers: BTreeMap::new(alloc),
+            open_connections: OpenConnections::new(alloc),
             current_connection: None,
             delivered: 0,
         }
@@ -110,7 +107,9 @@ impl Mux {
         ensures reach { reach_of self.new ≡ reach_of self.old }
         ensures delivered { delivered_to self.new ≡ delivered_to self.old }
     {
-        recycle_in_current(&mut self.current_connection, words);
+        if let Some(at) = self.current_connection {
+            self.open_connections.give_back(at, words);
+        }
     }
 
     // The same, but an error closes nothing.
@@ -121,9 +120,9 @@ impl Mux {
         ensures reach { reach_of self.new ≡ reach_of self.old }
         ensures delivered { delivered_to self.new ≡ delivered_to self.old }
     {
-        match &mut self.current_connection {
+        match self.current_connection {
             None => Turn::NotYet,
-            Some(current_connection) => current_connection.next(),
+            Some(at) => self.open_connections.next(at),
         }
     }
 
@@ -135,8 +134,7 @@ impl Mux {
         ensures reach { reach_of self.new ≡ reach_of self.old }
         ensures delivered { delivered_to self.new ≡ delivered_to self.old }
     {
-        self.closed.mark(link);
-        self.readers.remove(&link);
+        self.open_connections.close(link);
         drop_current(&mut self.current_connection, link);
     }
 }
@@ -149,14 +147,5 @@ fn drop_current(current_connection: &mut Option<CurrentConnection>, link: u64)
         && at.link == link
     {
         *current_connection = None;
-    }
-}
-
-// Passes the vector of a handled request back to the current connection, if there is one.
-fn recycle_in_current(current_connection: &mut Option<CurrentConnection>, words: Vec<Word>)
-    ensures { current_connection.new ≡ current_connection.old }
-{
-    if let Some(at) = current_connection {
-        at.give_back(words);
     }
 }

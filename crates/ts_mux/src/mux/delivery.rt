@@ -1,18 +1,14 @@
 // Delivers bytes to an open connection, which becomes the current one.
-ghost use Rattle.std.specs.Prelude.{◌≡◌, ◌+◌, ◌^◌, ◌<◌, ◌≤◌, false, List, [], ◌∷◌, length, Some, None};
-ghost use Rattle.std.specs.Prelude.{OnOk, OnErr};
-ghost use Rattle.ts_resp.specs.Reading.{fed};
+ghost use Rattle.std.specs.Prelude.{◌≡◌, ◌+◌, ◌^◌, ◌<◌, ◌≤◌, false, List, [], ◌∷◌, length, Some};
+ghost use Rattle.std.specs.Prelude.{OnOk, OnErr, IfOk, IfSome};
 ghost use Rattle.ts_mux.specs.declared.frame.Frame.{Frame};
-ghost use Rattle.ts_mux.specs.ClosedLinks.{is_closed};
-ghost use Rattle.ts_mux.specs.Links.{pending_items_of};
+ghost use Rattle.ts_mux.specs.ClosedLinks.{is_closed, GoesTo};
 ghost use Rattle.ts_mux.specs.Order.{without};
 ghost use Rattle.ts_mux.specs.Muxing.{pending_items, delivered_to, reach_of, is_inside_request};
 
 use super::Mux;
 use crate::current_connection::CurrentConnection;
 use std::alloc::AllocError;
-use std::mem;
-use ts_resp::Reader;
 
 impl Mux {
     /// Delivers a frame whose bytes stand elsewhere. On an error nothing was delivered; if the connection is closed
@@ -36,12 +32,16 @@ impl Mux {
             self.close(link);
             return Ok(());
         }
-        if self.closed.has(link) {
-            self.delivered += bytes.len() as u64;
-            return Ok(());
+        match self.go_to(link)? {
+            None => {
+                self.delivered += bytes.len() as u64;
+                Ok(())
+            }
+            Some(at) => {
+                self.feed(at, bytes)?;
+                Ok(())
+            }
         }
-        self.feed(link, bytes)?;
-        Ok(())
     }
 
     /// Allocates what it takes to close this connection and all with lower numbers. Meant for numbers that are given
@@ -52,91 +52,88 @@ impl Mux {
         ensures same { (frames : List Frame) → pending_items self.new frames ≡ pending_items self.old frames }
         ensures delivered { delivered_to self.new ≡ delivered_to self.old }
     {
-        self.closed.reach(link)
+        self.open_connections.reach(link)
     }
 
     /// Whether a connection has sent part of a request that is not complete. Allocates nothing.
     pub fn is_inside_request(&self, link: u64) -> bool
         ensures { result ≡ is_inside_request self.now link }
     {
-        if let Some(at) = &self.current_connection
-            && at.link == link
-        {
-            return at.reader.place().is_some();
+        self.open_connections.is_inside_request(link)
+    }
+
+    // Makes an open connection the current one. Returns None if it is closed.
+    fn go_to(&mut self, link: u64) -> Result<Option<CurrentConnection>, AllocError>
+        requires asked { pending_items self.old [] ≡ [] }
+        requires reached { link < reach_of self.old }
+        ensures same { (frames : List Frame) → pending_items self.new frames ≡ pending_items self.old frames }
+        ensures goes { IfOk result (λ at. GoesTo link self.new.open_connections self.new.current_connection at) }
+        ensures delivered { delivered_to self.new ≡ delivered_to self.old }
+        ensures reach { reach_of self.new ≡ reach_of self.old }
+    {
+        if let Some(at) = current_if(self.current_connection, link) {
+            return Ok(Some(at));
         }
-        match self.readers.get(&link) {
-            Some(reader) => reader.place().is_some(),
-            None => false,
+        self.switch_to(link)
+    }
+
+    // The same for a connection that has to be found.
+    fn switch_to(&mut self, link: u64) -> Result<Option<CurrentConnection>, AllocError>
+        requires asked { pending_items self.old [] ≡ [] }
+        requires reached { link < reach_of self.old }
+        ensures same { (frames : List Frame) → pending_items self.new frames ≡ pending_items self.old frames }
+        ensures goes { IfOk result (λ at. GoesTo link self.new.open_connections self.new.current_connection at) }
+        ensures delivered { delivered_to self.new ≡ delivered_to self.old }
+        ensures reach { reach_of self.new ≡ reach_of self.old }
+    {
+        match self.open_connections.find(link, self.alloc, self.limits) {
+            Ok(None) => Ok(None),
+            Ok(Some(index)) => {
+                let at = CurrentConnection { link, index };
+                self.current_connection = Some(at);
+                Ok(Some(at))
+            }
+            Err(failed) => Err(failed),
         }
     }
 
-    // Feeds bytes to an open connection and makes it the current one.
-    pub(super) fn feed(&mut self, link: u64, bytes: &[u8]) -> Result<(), AllocError>
+    // Feeds bytes to the current connection.
+    fn feed(&mut self, at: CurrentConnection, bytes: &[u8]) -> Result<(), AllocError>
         requires asked { pending_items self.old [] ≡ [] }
         requires some { 0 < length bytes.now }
-        requires open { is_closed self.old.closed link ≡ false }
-        requires reached { link < reach_of self.old }
+        requires current_connection { self.old.current_connection ≡ Some at }
+        requires open { is_closed self.old.open_connections at.link ≡ false }
         requires bound { delivered_to self.old + length bytes.now < 2 ^ 64 }
         ensures ok { OnOk result ((frames : List Frame)
             → pending_items self.new frames
-            ≡ pending_items self.old (record { link = link; bytes = bytes.now } ∷ frames)) }
+            ≡ pending_items self.old (record { link = at.link; bytes = bytes.now } ∷ frames)) }
         ensures delivered { OnOk result (delivered_to self.new ≡ delivered_to self.old + length bytes.now) }
         ensures err { OnErr result ((frames : List Frame)
             → pending_items self.new frames ≡ pending_items self.old frames) }
         ensures err_delivered { OnErr result (delivered_to self.new ≡ delivered_to self.old) }
         ensures reach { reach_of self.new ≡ reach_of self.old }
     {
-        self.store_current()?;
-        let mut reader = self.load_reader(link);
-        let fed = reader.feed(bytes);
-        self.current_connection = Some(CurrentConnection { link, reader });
-        fed?;
-        self.delivered += bytes.len() as u64;
-        Ok(())
-    }
-
-    // Stores the current connection's reader. On an error it stays current.
-    fn store_current(&mut self) -> Result<(), AllocError>
-        requires asked { pending_items self.old [] ≡ [] }
-        ensures same { (frames : List Frame) → pending_items self.new frames ≡ pending_items self.old frames }
-        ensures current_connection { OnOk result (self.new.current_connection ≡ None) }
-        ensures closed { self.new.closed ≡ self.old.closed }
-        ensures delivered { delivered_to self.new ≡ delivered_to self.old }
-    {
-        let Some(current_connection) = self.current_connection.take() else {
-            return Ok(());
-        };
-        if let Some(kept) = self.readers.get_mut(&current_connection.link) {
-            *kept = current_connection.reader;
-            return Ok(());
-        }
-        match self
-            .readers
-            .insert(current_connection.link, current_connection.reader)
-        {
-            Ok(_) => Ok(()),
-            Err(failed) => {
-                let (link, reader) = failed.value;
-                self.current_connection = Some(CurrentConnection { link, reader });
-                Err(AllocError)
+        match self.open_connections.feed(at, bytes) {
+            Ok(()) => {
+                self.delivered += bytes.len() as u64;
+                Ok(())
             }
+            Err(failed) => Err(failed),
         }
     }
+}
 
-    // Returns the connection's reader and leaves a fresh one in the map; a new connection gets a fresh one.
-    fn load_reader(&mut self, link: u64) -> Reader
-        requires current_connection { self.old.current_connection ≡ None }
-        ensures same { (frames : List Frame) → pending_items_of self.new.limits (is_closed self.new.closed)
-            self.new.readers (Some (record { link = link; reader = result })) frames ≡ pending_items self.old frames }
-        ensures fed { fed result ≤ delivered_to self.new }
-        ensures current_connection { self.new.current_connection ≡ None }
-        ensures closed { self.new.closed ≡ self.old.closed }
-        ensures delivered { delivered_to self.new ≡ delivered_to self.old }
-    {
-        let fresh = Reader::new(self.alloc, self.limits);
-        match self.readers.get_mut(&link) {
-            Some(kept) => mem::replace(kept, fresh),
-            None => fresh,
+// Returns the current connection if it is `link`.
+fn current_if(current_connection: Option<CurrentConnection>, link: u64) -> Option<CurrentConnection>
+    ensures { IfSome result (λ at. (at.link ≡ link) × (current_connection ≡ Some at)) }
+{
+    match current_connection {
+        Some(at) => {
+            if at.link == link {
+                return Some(at);
+            }
+            None
         }
+        None => None,
     }
 }

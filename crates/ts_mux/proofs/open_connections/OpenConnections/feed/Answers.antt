@@ -1,0 +1,28 @@
+use Rattle.std.proofs.Common.{refl, ap, ◌∙◌, arith}
+use Rattle.slab.specs.Slab as slab
+use Rattle.slab.proofs.SlabLemmas.{Updates-with_value}
+use Rattle.ts_mux.specs.OwnReaders.{index_in, reader_at}
+use Rattle.ts_mux.specs.Links.{fed_in}
+use Rattle.ts_mux.proofs.OwnReaders.{contains, put_own, changed}
+use Rattle.ts_mux.proofs.open_connections.OpenConnections.feed.Goals as goal
+
+pub index_mut-reader-requires : goal.index_mut-reader-requires
+index_mut-reader-requires c = c.args.self.now.own.stored c.args.at.link c.args.at.index c.requires.index
+
+pub feed-requires : goal.feed-requires
+feed-requires c =
+    let s = c.args.self.now in
+    let same = ap fed_in (ap (reader_at s.readers) c.requires.index ∙ c.index_mut-reader.ensures.value) in
+    omega (arith, same, c.requires.bound)
+
+pub invariant_of-self-clause-own : goal.invariant_of-self-clause-own
+invariant_of-self-clause-own c =
+    let s = c.args.self.now in
+    put_own (index_in s.indexes) s.readers (slab.with_value s.readers c.args.at.index c.feed.new.self) c.args.at.link c.args.at.index c.feed.new.self
+    (Updates-with_value s.readers c.args.at.index c.feed.new.self (contains s.readers c.args.at.index c.index_mut-reader.result.now c.index_mut-reader.ensures.value)) c.requires.index s.own
+
+pub returns : goal.returns
+returns c =
+    let s = c.args.self.now in
+    changed s _ c.args.at.link c.args.at.index c.index_mut-reader.result.now c.feed.new.self s.own c.requires.index c.index_mut-reader.ensures.value refl refl refl
+    record { stream = c.feed.ensures.ok; count = c.feed.ensures.fed; err = c.feed.ensures.err }
