@@ -1,8 +1,8 @@
 -- Frames written one after another, the last one perhaps only in part.
 use Rattle.std.proofs.Common.{◌≡◌, ℕ, ◌+◌, ◌-◌, List, [], ◌∷◌, ◌++◌, length, take, drop, refl, sym, ◌∙◌, ap, subst, append_assoc, length-append, length-drop, arith}
 use Rattle.std.proofs.Math.Seq.{take-append-add}
-use Rattle.std.proofs.lemmas.List.{take_all, take-append-drop, take-append-le}
-use Rattle.std.specs.Prelude.{Result, Ok, Err, OnErr}
+use Rattle.std.proofs.lemmas.List.{take_all, take-append-drop, take-append-le, drop-take, drop_at, length-take-le}
+use Rattle.std.specs.Prelude.{◌≤◌, slice_range, Result, Ok, Err, OnErr}
 use Rattle.ts_io.specs.Sinks.{Grows, GrowsByPrefix}
 use Rattle.ts_io.proofs.Growth.{grows_twice}
 use Rattle.ts_mux.specs.declared.frame.Frame.{Frame}
@@ -23,6 +23,20 @@ front_after had between has first others grown front =
     }
 
 -- ---- the header with the first bytes, then the rest
+
+-- the first bytes were put at offset `end`, and then the header before them
+pub put_together : (header front old mid room : List ℕ) (start end : ℕ) → end ≤ length old → take (end + length front) mid ≡ take end old ++ front
+    → drop start room ≡ header ++ drop end mid → start + length header ≡ end → slice_range room start (end + length front) ≡ header ++ front
+put_together header front old mid room start end fits fronted written at =
+    let count : end + length front - start ≡ length header + length front = omega (arith, at) in
+    ap (λ n. take n (drop start room)) count
+    ∙ ap (take (length header + length front)) written
+    ∙ take-append-add header (drop end mid) (length front)
+    ∙ ap (λ l. header ++ l) (sym (drop-take end (length front) mid) ∙ ap (drop end) fronted ∙ drop_at (take end old) front end (length-take-le end old fits))
+
+pub of_length : (room bytes front : List ℕ) (start end first : ℕ) → first ≤ length bytes → slice_range room start (end + length (take first bytes)) ≡ front
+    → slice_range room start (end + first) ≡ front
+of_length room bytes front start end first within is = ap (λ n. slice_range room start (end + n)) (sym (length-take-le first bytes within)) ∙ is
 
 written_apart : (header bytes : List ℕ) (first : ℕ) → (header ++ take first bytes) ++ drop first bytes ≡ header ++ bytes
 written_apart header bytes first = append_assoc header (take first bytes) (drop first bytes) ∙ ap (λ l. header ++ l) (take-append-drop first bytes)

@@ -1,14 +1,15 @@
 // A capture session: answers the interleaved connections of one capture.
-ghost use Rattle.std.specs.Prelude.{◌≡◌, ◌+◌, ◌<◌, ◌≤◌, ◌^◌, [], length, None, Some, IfOk};
+ghost use Rattle.std.specs.Prelude.{◌≡◌, ◌+◌, ◌<◌, ◌≤◌, ◌^◌, ℕ, List, [], length, None, Some, IfOk, OnOk};
 ghost use Rattle.ts_mux.specs.Muxing.{pending_items, delivered_to};
 ghost use Rattle.ts_execution.specs.Limits.{CanRead};
 
+use crate::framing::TOGETHER;
 use std::alloc::{AllocError, Global};
 use std::marker::Brand;
 use std::sync::ledger::{Blank, Ledger};
 use ts_db::{Db, Hints};
 use ts_io::{Clock, Sink};
-use ts_mux::{Frames, Mux, NextFrame};
+use ts_mux::{FoundFrame, FrameSpan, Frames, Mux};
 use ts_resp::{Out, WireLimits};
 use ts_sample::Steps;
 
@@ -47,16 +48,20 @@ pub(crate) struct CaptureSession {
     frames: Frames,
     mux: Mux,
     room: Out,
+    // where the frame of a reply is put together
+    frame_room: [u8; TOGETHER],
     hints: Hints,
     ghost fits: { 128 ≤ length room.bytes + room.spare },
     ghost counted: { delivered_to mux ≤ frames.begin },
 }
 
 impl CaptureSession {
-    ghost use Rattle.ts_mux.specs.Framing.{fed, unfinished};
+    ghost use Rattle.ts_mux.specs.Capture.{frames_of, ending_of};
+    ghost use Rattle.ts_mux.specs.Framing.{capture_of, fed, unfinished};
+    ghost use Rattle.ts_mux.specs.NextFrames.{StandsAt};
     ghost use Rattle.ts_db.specs.DbState.{Simulates};
     ghost use Rattle.ts_engine.specs.CaptureSteps.{HandledAs, GoesOn, WroteOrFault};
-    ghost use Rattle.ts_engine.specs.CaptureView.{frames_in, capture_progress, HasAnswered, Begins};
+    ghost use Rattle.ts_engine.specs.CaptureView.{frames_in, coming, capture_progress, HasAnswered, Begins};
 
     // A new capture session.
     pub(crate) fn new(alloc: Global, limits: WireLimits) -> Result<CaptureSession, AllocError>
@@ -68,6 +73,7 @@ impl CaptureSession {
             frames: Frames::new(alloc),
             mux: Mux::new(alloc, limits),
             room,
+            frame_room: [0; TOGETHER],
             hints: Hints::new(alloc),
         })
     }
@@ -151,14 +157,31 @@ impl CaptureSession {
         ensures within { (frames_in self.new).begin ≤ fed (frames_in self.new) }
         ensures cause { WroteOrFault (K.faults out.old) (K.faults out.new) result }
     {
-        match self.frames.next() {
-            NextFrame::Whole(frame) => match self.mux.deliver(frame) {
+        match self.frames.find() {
+            FoundFrame::Whole(span) => match self.deliver(span) {
                 Ok(()) => self.answer_items(db, clock, out, steps).end(),
                 Err(_) => Some(CaptureGo::Memory),
             },
-            NextFrame::NotYet => Some(CaptureGo::More),
-            NextFrame::Broken(place) => Some(CaptureGo::Broken(place)),
-            NextFrame::Memory => Some(CaptureGo::Memory),
+            FoundFrame::NotYet => Some(CaptureGo::More),
+            FoundFrame::Broken(place) => Some(CaptureGo::Broken(place)),
         }
+    }
+
+    // Delivers a frame that was found, and passes over it.
+    fn deliver(&mut self, span: FrameSpan) -> Result<(), AllocError>
+        requires asked { pending_items self.old.mux [] ≡ [] }
+        requires stands { StandsAt (frames_in self.old) span }
+        requires bound { fed (frames_in self.old) < 2 ^ 64 }
+        ensures items { OnOk result ((more : List ℕ) → coming self.old (frames_of (capture_of (frames_in self.old) more))
+            ≡ coming self.new (frames_of (capture_of (frames_in self.new) more))) }
+        ensures ending { OnOk result ((more : List ℕ) → ending_of (capture_of (frames_in self.old) more)
+            ≡ ending_of (capture_of (frames_in self.new) more)) }
+        ensures onward { OnOk result ((frames_in self.old).begin < (frames_in self.new).begin) }
+        ensures fed { fed (frames_in self.new) ≡ fed (frames_in self.old) }
+    {
+        self.mux
+            .deliver_bytes(span.link as u64, self.frames.bytes(span))?;
+        self.frames.pass(span.end);
+        Ok(())
     }
 }

@@ -6,7 +6,7 @@ ghost use Rattle.ts_db.specs.DbState.{DbState, Represents};
 ghost use Rattle.ts_engine.specs.Generated.{IsSummary, WritesSummary, Workload};
 ghost use Rattle.ts_engine.specs.Top.{AreUsable};
 
-use crate::piped::{End, pipe};
+use crate::piped::{End, PIECE, pipe};
 use crate::status::report;
 use std::alloc::Global;
 use std::marker::Brand;
@@ -19,9 +19,6 @@ use ts_words::{Status, summary};
 
 /// The most bytes of a summary.
 const ROOM: usize = 192;
-
-/// The most bytes of a workload that one read takes.
-const PIECE: usize = 4096;
 
 // Runs the workload of this seed with `n` changes on a new database, and writes its summary to `out`. Any status other
 // than `Ended` writes its line to `err`.

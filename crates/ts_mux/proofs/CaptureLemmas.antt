@@ -1,7 +1,6 @@
 -- Lemmas about parsing a capture: one byte, and the body of a frame.
 use Rattle.std.proofs.Common.{◌≡◌, ℕ, zero, suc, ◌+◌, ◌-◌, ◌<◌, ◌≤◌, List, [], ◌∷◌, ◌++◌, length, take, drop, refl, sym, ap, ◌∙◌, append_assoc, arith}
 use Rattle.std.proofs.lemmas.List.{take-append-drop, length-take-le}
-use Rattle.std.specs.Prelude.{slice_index}
 use Rattle.ts_mux.specs.Capture.{Then, Inside, Mode, Body, Transition, transition, at_end, after_transition, after_bytes, read_on, capture_at}
 
 pub read_on-nil : (place begin : ℕ) (mode : Mode) → read_on place begin mode [] ≡ at_end mode begin
@@ -13,12 +12,6 @@ pub read_on-byte : (place begin : ℕ) (mode : Mode) (byte : ℕ) (bytes : List 
 unfolding read_on
 read_on-byte place begin mode byte bytes m e =
     ap (λ m. after_transition m place begin (λ from next. read_on (place + 1) from next bytes)) e
-
--- the first of these bytes
-pub read_on-first : (place begin : ℕ) (mode : Mode) (bytes : List ℕ) (m : Transition) → 0 < length bytes → transition mode (slice_index bytes 0) ≡ m
-    → (more : List ℕ) → read_on place begin mode (bytes ++ more) ≡ after_transition m place begin (λ from next. read_on (place + 1) from next (drop 1 bytes ++ more))
-read_on-first place begin mode [] m h e more = absurd (omega arith)
-read_on-first place begin mode (byte ∷ bytes) m h e more = read_on-byte place begin mode byte (bytes ++ more) m e
 
 -- the body of a frame, part of which was read before
 pub body_is_read : (link : ℕ) (byte : ℕ) (bytes : List ℕ) (place begin : ℕ) (front more : List ℕ)

@@ -5,26 +5,11 @@ use Rattle.std.proofs.lemmas.Fmt.{decimal_by_steps}
 use Rattle.std.specs.Fmt.{decimal}
 use Rattle.ts_spec.specs.Wire.{FEED, SPACE, digit_of}
 use Rattle.ts_mux.specs.declared.frame.Frame.{Frame}
-use Rattle.ts_mux.specs.Capture.{Capture, Then, Ended, Mode, Link, Length, MOST_LINKS, MOST_BYTES, within, with_digit, with_byte, goes, after_bytes, after_link, after_length, transition, after_transition, read_on, capture_at, capture, frames_of, ending_of, header, framed, all_framed}
+use Rattle.ts_mux.specs.Capture.{Capture, Then, Ended, Mode, Link, Length, MOST_LINKS, MOST_BYTES, within, with_digit, with_byte, goes, after_bytes, transition, after_transition, read_on, capture_at, capture, frames_of, ending_of, header, framed, all_framed}
 use Rattle.ts_mux.specs.Framing.{IsFrame}
+use Rattle.ts_mux.specs.Headers.{IsNumberMode}
 use Rattle.ts_mux.proofs.CaptureLemmas.{read_on-nil, read_on-byte, body_is_read}
-
--- the states in which the digits of a number are parsed
-record IsNumberMode (least most : ℕ) (mode : Option ℕ → Mode) : Type 0 where
-  small : least ≤ 1
-  moves : (so_far : Option ℕ) (byte : ℕ) → 48 ≤ byte → transition (mode so_far) byte ≡ goes mode (with_byte least most so_far byte)
-
-link_mode : IsNumberMode 1 MOST_LINKS Link
-link_mode = record {
-  small = omega arith;
-  moves = λ so_far byte h. ap (λ test. if test then after_link so_far else goes Link (with_byte 1 MOST_LINKS so_far byte)) (ne_eqb byte SPACE (λ e. omega arith));
-}
-
-length_mode : (link : ℕ) → IsNumberMode 0 MOST_BYTES (Length link)
-length_mode link = record {
-  small = omega arith;
-  moves = λ so_far byte h. ap (λ test. if test then after_length link so_far else goes (Length link) (with_byte 0 MOST_BYTES so_far byte)) (ne_eqb byte FEED (λ e. omega arith));
-}
+use Rattle.ts_mux.proofs.HeaderLemmas.{link_mode, length_mode}
 
 within-is : (least most number : ℕ) → least ≤ number → number ≤ most → within least most number ≡ Some number
 within-is least most number low high =
@@ -49,24 +34,27 @@ AreRead least most mode number digits =
     least ≤ number → number ≤ most → (place begin : ℕ) (more : List ℕ)
     → read_on place begin (mode None) (digits ++ more) ≡ read_on (place + length digits) begin (mode (Some number)) more
 
-number_is_read : {least most : ℕ} {mode : Option ℕ → Mode} → IsNumberMode least most mode → (number : ℕ) → number < 2 ^ 64 → AreRead least most mode number (decimal number)
-number_is_read {least} {most} {mode} m number small = decimal_by_steps (AreRead least most mode) one more number small
+number_is_read : (least most last : ℕ) (mode : Option ℕ → Mode) → IsNumberMode least most last mode → least ≤ 1 → last < 48 → (number : ℕ) → number < 2 ^ 64
+    → AreRead least most mode number (decimal number)
+number_is_read least most last mode m small below number fits = decimal_by_steps (AreRead least most mode) one more number fits
   where
+    moves : (so_far : Option ℕ) (byte : ℕ) → 48 ≤ byte → transition (mode so_far) byte ≡ goes mode (with_byte least most so_far byte)
+    moves so_far byte h = m.digit so_far byte (λ e. omega (arith, h, e, below))
+
     one : (n : ℕ) → n < 10 → AreRead least most mode n ((48 + n) ∷ [])
     one n h = λ low high place begin rest.
         read_on-byte place begin (mode None) (48 + n) rest _
-        (m.moves None (48 + n) (omega arith) ∙ ap (goes mode) (with_byte-is least most None n h ∙ within-is least most n low high))
+        (moves None (48 + n) (omega arith) ∙ ap (goes mode) (with_byte-is least most None n h ∙ within-is least most n low high))
 
     more : (n : ℕ) (digits : List ℕ) → 10 ≤ n → AreRead least most mode (n / 10) digits → AreRead least most mode n (digits ++ ((48 + n % 10) ∷ []))
     more n digits h before = λ low high place begin rest.
         let some : 1 ≤ n / 10 = omega arith in
         let whole : 10 * (n / 10) + n % 10 ≡ n = omega arith in
         let there : place + length digits + 1 ≡ place + length (digits ++ (48 + n % 10) ∷ []) = omega (arith, length-append digits ((48 + n % 10) ∷ [])) in
-        let small = m.small in
         ap (read_on place begin (mode None)) (append_assoc digits ((48 + n % 10) ∷ []) rest)
         ∙ before (omega (arith, some, small)) (omega arith) place begin ((48 + n % 10) ∷ rest)
         ∙ read_on-byte (place + length digits) begin (mode (Some (n / 10))) (48 + n % 10) rest _
-        (m.moves (Some (n / 10)) (48 + n % 10) (omega arith)
+        (moves (Some (n / 10)) (48 + n % 10) (omega arith)
         ∙ ap (goes mode) (with_byte-is least most (Some (n / 10)) (n % 10) (omega arith) ∙ with_digit-more least most (n / 10) (n % 10) some small (omega (arith, whole, high)) ∙ ap Some whole))
         ∙ ap (λ place. read_on place begin (mode (Some n)) rest) there
 
@@ -102,9 +90,9 @@ frame_is_read frame is place more =
     let body = bytes_are_read link frame.bytes feed place more in (
       body.0,
       ap (capture_at place) (framed-append frame more)
-          ∙ number_is_read link_mode link (omega (arith, high)) low high place place (SPACE ∷ (decimal size ++ FEED ∷ (frame.bytes ++ more)))
+          ∙ number_is_read 1 MOST_LINKS SPACE Link link_mode (omega arith) (omega arith) link (omega (arith, high)) low high place place (SPACE ∷ (decimal size ++ FEED ∷ (frame.bytes ++ more)))
           ∙ read_on-byte space place (Link (Some link)) SPACE (decimal size ++ FEED ∷ (frame.bytes ++ more)) _ refl
-          ∙ number_is_read (length_mode link) size (omega (arith, fits)) (omega arith) fits (space + 1) place (FEED ∷ (frame.bytes ++ more))
+          ∙ number_is_read 0 MOST_BYTES FEED (Length link) (length_mode link) (omega arith) (omega arith) size (omega (arith, fits)) (omega arith) fits (space + 1) place (FEED ∷ (frame.bytes ++ more))
           ∙ read_on-byte feed place (Length link (Some size)) FEED (frame.bytes ++ more) _ refl
           ∙ body.1,
     )

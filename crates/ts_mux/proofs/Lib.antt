@@ -9,6 +9,7 @@ pub mod Delivery
 pub mod Feeding
 pub mod FramingLemmas
 pub mod FramesReadBack
+pub mod HeaderLemmas
 pub mod LostFrames
 pub mod MuxLemmas
 pub mod OneConnection
@@ -18,3 +19,4 @@ pub mod OwnReaders
 pub mod Starting
 pub mod Streams
 pub mod Unsent
+pub mod WrittenHeaders

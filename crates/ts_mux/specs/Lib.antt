@@ -1,6 +1,7 @@
 pub mod Capture
 pub mod ClosedLinks
 pub mod Framing
+pub mod Headers
 pub mod Links
 pub mod Muxing
 pub mod NextFrames

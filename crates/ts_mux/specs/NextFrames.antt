@@ -1,11 +1,14 @@
--- Facts about the result of `Frames::next`, and about one step of it.
-use Rattle.std.specs.Prelude.{◌≡◌, ℕ, ◌+◌, ◌<◌, ◌≤◌, List, [], length}
+-- Facts about the results of `Frames::next` and `Frames::find`.
+use Rattle.std.specs.Prelude.{◌≡◌, ℕ, ◌+◌, ◌<◌, ◌≤◌, List, [], length, slice_range}
 use Rattle.ts_mux.specs.declared.frame.Frame.{Frame}
 use Rattle.ts_mux.specs.declared.frames.NextFrame.{NextFrame}
 use Rattle.ts_mux.specs.declared.frames.NextFrame.TheVariants.{Whole, NotYet, Broken, Memory}
+use Rattle.ts_mux.specs.declared.frames.FoundFrame.{FoundFrame}
+use Rattle.ts_mux.specs.declared.frames.FoundFrame.TheVariants as found
+use Rattle.ts_mux.specs.declared.frames.FrameSpan.{FrameSpan}
 use Rattle.ts_mux.specs.Capture as capture
 use Rattle.ts_mux.specs.Capture.{Capture}
-use Rattle.ts_mux.specs.Framing.{Framing, IsLink, capture_of, fed, unfinished, ended_at}
+use Rattle.ts_mux.specs.Framing.{Framing, IsLink, capture_of, fed, past, unfinished, ended_at}
 
 -- a fact about the frame, if there is one
 abbrev pub IfWhole : NextFrame → (Frame → Type 0) → Type 0
@@ -46,14 +49,6 @@ OnMemory Memory P = P
 abbrev pub HasWhole : Framing → Type 0
 HasWhole r = (frame : Frame) × (rest : List ℕ → Capture) × ((more : List ℕ) → capture_of r more ≡ capture.Then frame (rest more))
 
--- one byte of a header was read, and the capture is the same
-pub record ReadsHeaderByte (old new : Framing) : Type 0 where
-  pub same : (more : List ℕ) → capture_of new more ≡ capture_of old more
-  pub shorter : length new.unread < length old.unread
-  pub fed_same : fed new ≡ fed old
-  pub begin : new.begin ≡ old.begin
-  pub place : unfinished new ≡ unfinished old
-
 -- the result describes how the capture continues
 pub record IsNextFrame (old new : Framing) (next : NextFrame) : Type 0 where
   pub whole : IfWhole next (λ frame. (more : List ℕ) → capture_of old more ≡ capture.Then frame (capture_of new more))
@@ -69,3 +64,22 @@ pub record IsNextFrame (old new : Framing) (next : NextFrame) : Type 0 where
   pub fed_same : fed new ≡ fed old
   pub later : old.begin ≤ new.begin
   pub begin : new.begin ≤ fed new
+
+-- the unread bytes in this span
+abbrev pub bytes_at : Framing → FrameSpan → List ℕ
+bytes_at r span = slice_range r.unread span.start span.end
+
+-- the next frame stands there
+pub record StandsAt (r : Framing) (span : FrameSpan) : Type 0 where
+  pub next : (more : List ℕ) → capture_of r more ≡ capture.Then (record { link = span.link; bytes = bytes_at r span }) (capture_of (past r span.end) more)
+  pub connection : IsLink span.link
+  pub some : 0 < span.start
+  pub order : span.start ≤ span.end
+  pub within : span.end ≤ length r.unread
+  pub most : span.end ≤ span.start + capture.MOST_BYTES
+
+-- how the capture continues
+abbrev pub IsFound : FoundFrame → Framing → Type 0
+IsFound (found.Whole span) r = StandsAt r span
+IsFound found.NotYet r = capture_of r [] ≡ ended_at (unfinished r)
+IsFound (found.Broken place) r = (more : List ℕ) → capture_of r more ≡ capture.Broken place

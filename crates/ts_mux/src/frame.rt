@@ -1,9 +1,8 @@
 // A frame of a capture, and its header.
-ghost use Rattle.std.specs.Prelude.{◌≡◌, ◌+◌, ◌≤◌, ◌++◌, length, take};
-ghost use Rattle.std.specs.Fmt.{decimal};
+ghost use Rattle.std.specs.Prelude.{◌≡◌, ◌+◌, ◌≤◌, ◌++◌, length, drop};
 ghost use Rattle.ts_mux.specs.Capture.{header};
 
-use itoa::Buffer;
+use itoa::write_digits;
 use std::marker::Model;
 use ts_resp::Word;
 
@@ -16,25 +15,25 @@ pub struct Frame {
     pub bytes: Word,
 }
 
-// Two numbers of 64 bits (20 digits each), a space and a line feed.
-const HEADER_CAPACITY: usize = 42;
+/// The greatest length of a header in bytes: two numbers of 64 bits (20 digits each), a space and a line feed.
+pub const HEADER_CAPACITY: usize = 42;
 
 /// The header of a frame: connection number, space, length in bytes and line feed. A written frame may be longer than
 /// one that `Frames` accepts.
 #[derive(Drop)]
 pub struct Header {
     header_buffer: [u8; HEADER_CAPACITY],
-    len: usize,
+    start: usize,
 }
 
 impl Model for Header {
-    ghost use Rattle.std.specs.Prelude.{List, ℕ, ◌≤◌, take};
+    ghost use Rattle.std.specs.Prelude.{List, ℕ, ◌≤◌, drop};
 
     ghost Value = { List ℕ };
 
-    ghost view = { λ h. take h.len h.header_buffer };
+    ghost view = { λ h. drop h.start h.header_buffer };
 
-    ghost invariant = { λ h. h.len ≤ 42 };
+    ghost invariant = { λ h. h.start ≤ 42 };
 }
 
 impl Header {
@@ -43,11 +42,11 @@ impl Header {
         ensures { result ≡ header link len }
     {
         let mut header_buffer = [0; HEADER_CAPACITY];
-        let space = put_number(&mut header_buffer, 0, link);
-        let second = put(&mut header_buffer, space, b" ");
-        let feed = put_number(&mut header_buffer, second, len as u64);
-        let len = put(&mut header_buffer, feed, b"\n");
-        Header { header_buffer, len }
+        let start = write_header(link, len, HEADER_CAPACITY, &mut header_buffer);
+        Header {
+            header_buffer,
+            start,
+        }
     }
 
     /// The bytes of the header, at most 42. Allocates nothing.
@@ -55,29 +54,23 @@ impl Header {
         ensures bytes { result.now ≡ self.now }
         ensures short { length result.now ≤ 42 }
     {
-        &self.header_buffer[..self.len]
+        &self.header_buffer[self.start..]
     }
 }
 
-// Copies `text` to offset `at`. Returns the offset after it.
-fn put(header_buffer: &mut [u8], at: usize, text: &[u8]) -> usize
-    requires { at + length text.now ≤ length header_buffer.old }
-    ensures text { take result header_buffer.new ≡ take at header_buffer.old ++ text.now }
-    ensures after { result ≡ at + length text.now }
-    ensures size { length header_buffer.new ≡ length header_buffer.old }
+/// Writes the header of a frame with `len` bytes so that it ends at offset `end`. Returns the offset where it starts.
+/// Allocates nothing.
+pub fn write_header(link: u64, len: usize, end: usize, room: &mut [u8]) -> usize
+    requires from { 42 ≤ end }
+    requires to { end ≤ length room.old }
+    ensures text { drop result room.new ≡ header link len ++ drop end room.old }
+    ensures start { result + length (header link len) ≡ end }
+    ensures size { length room.new ≡ length room.old }
 {
-    let after = at + text.len();
-    header_buffer[at..after].copy_from_slice(text);
-    after
-}
-
-// Writes a decimal number at offset `at`. Returns the offset after it.
-fn put_number(header_buffer: &mut [u8], at: usize, number: u64) -> usize
-    requires { at + 20 ≤ length header_buffer.old }
-    ensures text { take result header_buffer.new ≡ take at header_buffer.old ++ decimal number }
-    ensures after { result ≤ at + 20 }
-    ensures size { length header_buffer.new ≡ length header_buffer.old }
-{
-    let mut buffer = Buffer::new();
-    put(header_buffer, at, buffer.format(number).as_bytes())
+    let feed = end - 1;
+    room[feed] = b'\n';
+    let digits = write_digits(len as u64, room, feed);
+    let space = digits - 1;
+    room[space] = b' ';
+    write_digits(link, room, space)
 }

@@ -1,16 +1,16 @@
 // Parses the frames of a capture that arrives in pieces.
 ghost use Rattle.std.specs.Prelude.{◌≡◌, ℕ, ◌+◌, ◌^◌, ◌<◌, ◌≤◌, List, [], ◌++◌, length, None, OnOk, OnErr};
 ghost use Rattle.ts_mux.specs.Capture.{Then, Broken, capture, MOST_BYTES};
-ghost use Rattle.ts_mux.specs.Framing.{IsLink, capture_of, fed, unfinished, ended_at};
+ghost use Rattle.ts_mux.specs.Framing.{IsLink, capture_of, fed, past, unfinished, ended_at};
 ghost use Rattle.ts_mux.specs.NextFrames.{IfWhole, UnlessWhole, OnNotYet, IfBroken, OnMemory, HasWhole};
+ghost use Rattle.ts_mux.specs.NextFrames.{IsFound, IsNextFrame, StandsAt, bytes_at};
 
 use crate::Frame;
-use crate::frame_progress::FrameProgress;
+use crate::found_header::{FoundHeader, read_header};
 use bytes::BytesMut;
 use std::alloc::{AllocError, Global};
 use std::marker::Model;
-
-mod steps;
+use ts_resp::Word;
 
 /// The result of `Frames::next`.
 #[derive(Debug, Drop)]
@@ -25,32 +25,46 @@ pub enum NextFrame {
     Memory,
 }
 
+/// The result of `Frames::find`.
+#[derive(Clone, Copy, Debug)]
+pub enum FoundFrame {
+    /// Where the next frame stands.
+    Whole(FrameSpan),
+    /// The bytes fed so far contain no further complete frame.
+    NotYet,
+    /// The byte at this offset cannot continue the capture.
+    Broken(u64),
+}
+
+/// Where a frame stands in the unread bytes of a `Frames`.
+#[derive(Clone, Copy, Debug)]
+pub struct FrameSpan {
+    /// The number of the connection.
+    pub link: u32,
+    /// Where the bytes of the frame start, after its header.
+    pub start: usize,
+    /// Where they end.
+    pub end: usize,
+}
+
 /// Parses frames from a capture that arrives in pieces of any size.
 #[derive(Drop)]
 pub struct Frames {
     alloc: Global,
-    // offsets: of the first byte of the current frame, and of the first unread byte
+    // the offset of the first unread byte, with which a frame begins
     begin: u64,
-    place: u64,
-    frame_progress: FrameProgress,
     unread: BytesMut,
 }
 
 impl Model for Frames {
-    ghost use Rattle.std.specs.Prelude.{◌+◌, ◌^◌, ◌<◌, ◌≤◌, length};
-    ghost use Rattle.ts_mux.specs.Framing.{Framing, mode_of, IsValidProgress, NeedsBytes};
+    ghost use Rattle.std.specs.Prelude.{◌+◌, ◌^◌, ◌<◌, length};
+    ghost use Rattle.ts_mux.specs.Framing.{Framing};
 
     ghost Value = { Framing };
 
-    ghost view = { λ f. record {
-      begin = f.begin;
-      place = f.place;
-      mode = mode_of f.frame_progress;
-      unread = f.unread.items;
-    } };
+    ghost view = { λ f. record { begin = f.begin; unread = f.unread.items } };
 
-    ghost invariant = { λ f. (f.begin ≤ f.place) × (f.place + length f.unread.items < 2 ^ 64)
-        × IsValidProgress f.frame_progress × NeedsBytes f.frame_progress };
+    ghost invariant = { λ f. f.begin + length f.unread.items < 2 ^ 64 };
 }
 
 impl Frames {
@@ -63,8 +77,6 @@ impl Frames {
         Frames {
             alloc,
             begin: 0,
-            place: 0,
-            frame_progress: FrameProgress::Link { number: None },
             unread: BytesMut::new(alloc),
         }
     }
@@ -103,26 +115,73 @@ impl Frames {
         ensures begin { self.new.begin ≤ fed self.new }
         ensures bound { fed self.new < 2 ^ 64 }
     {
-        let _place = self.place;
-        loop {
-            if let Some(next) = self.step() {
-                return next;
-            }
+        match self.find() {
+            FoundFrame::Whole(span) => self.take(span),
+            FoundFrame::NotYet => NextFrame::NotYet,
+            FoundFrame::Broken(place) => NextFrame::Broken(place),
         }
+    }
+
+    // Copies a frame that was found, and passes over it.
+    fn take(&mut self, span: FrameSpan) -> NextFrame
+        requires { StandsAt self.old span }
+        ensures { IsNextFrame self.old self.new result }
+    {
+        let Ok(bytes) = Word::from_slice(self.alloc, self.bytes(span)) else {
+            return NextFrame::Memory;
+        };
+        self.pass(span.end);
+        NextFrame::Whole(Frame {
+            link: span.link,
+            bytes,
+        })
+    }
+
+    /// Finds the next frame of the bytes fed so far. Copies nothing.
+    pub fn find(&self) -> FoundFrame
+        ensures found { IsFound result self.now }
+        ensures bound { fed self.now < 2 ^ 64 }
+    {
+        let unread = self.unread.as_slice();
+        match read_header(unread) {
+            FoundHeader::Whole { link, len, start } => {
+                let left = unread.len() - start;
+                if left < len as usize {
+                    return FoundFrame::NotYet;
+                }
+                let end = start + len as usize;
+                FoundFrame::Whole(FrameSpan { link, start, end })
+            }
+            FoundHeader::NotYet => FoundFrame::NotYet,
+            FoundHeader::Broken(at) => FoundFrame::Broken(self.begin + at as u64),
+        }
+    }
+
+    /// Returns the bytes of a frame that was found.
+    pub fn bytes(&self, span: FrameSpan) -> &[u8]
+        requires order { span.start ≤ span.end }
+        requires within { span.end ≤ length self.now.unread }
+        ensures { result.now ≡ bytes_at self.now span }
+    {
+        &self.unread.as_slice()[span.start..span.end]
+    }
+
+    /// Passes over the next `len` bytes, with which a frame ends.
+    pub fn pass(&mut self, len: usize)
+        requires { len ≤ length self.old.unread }
+        ensures { self.new ≡ past self.old len }
+    {
+        self.unread.advance(len);
+        self.begin += len as u64;
     }
 
     /// Returns the offset of the incomplete frame, or `None` between frames. Allocates nothing.
     pub fn place(&self) -> Option<u64>
         ensures { result ≡ unfinished self.now }
     {
-        if !self.unread.is_empty() {
-            return Some(self.begin);
+        if self.unread.is_empty() {
+            return None;
         }
-        match self.frame_progress {
-            FrameProgress::Link { number: None } => None,
-            FrameProgress::Link { .. }
-            | FrameProgress::Length { .. }
-            | FrameProgress::Body { .. } => Some(self.begin),
-        }
+        Some(self.begin)
     }
 }

@@ -2,16 +2,17 @@
 #![tactic(auto)]
 
 mod current_connection;
+mod found_header;
+mod found_number;
 mod frame;
-mod frame_progress;
 mod frames;
 mod laws;
 mod mux;
 mod open_connections;
 
 pub use current_connection::Turn;
-pub use frame::{Frame, Header};
-pub use frames::{Frames, NextFrame};
+pub use frame::{Frame, HEADER_CAPACITY, Header, write_header};
+pub use frames::{FoundFrame, FrameSpan, Frames, NextFrame};
 pub use laws::{
     bytes_bring_nothing_of_others, closings_make_the_order, connections_stand_apart,
     each_connection_has_its_own_requests, written_frames_read_back,

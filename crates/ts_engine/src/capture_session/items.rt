@@ -138,13 +138,15 @@ impl CaptureSession {
     }
 
     // Writes the reply as a frame of the connection.
-    fn write<K: Sink>(&self, link: u64, out: &mut K) -> Option<CaptureGo>
+    fn write<K: Sink>(&mut self, link: u64, out: &mut K) -> Option<CaptureGo>
         ensures wrote { Wrote result (K.has out.old) (K.has out.new)
-            (framed (record { link = link; bytes = self.now.room.bytes })) }
+            (framed (record { link = link; bytes = self.old.room.bytes })) }
         ensures ends { result ≡ Some CaptureGo.More → ⊥ }
+        ensures mux { self.new.mux ≡ self.old.mux }
+        ensures frames { frames_in self.new ≡ frames_in self.old }
         ensures cause { WroteOrFault (K.faults out.old) (K.faults out.new) result }
     {
-        match write_frame(out, link, self.room.bytes()) {
+        match write_frame(out, &mut self.frame_room, link, self.room.bytes()) {
             Ok(()) => None,
             Err(_) => Some(CaptureGo::WriteFault),
         }
