@@ -1,5 +1,5 @@
-// Queries by key. A destination has the rows of its closed buckets and, if the latest one is asked for, that of its open
-// bucket.
+// Queries by key. A destination has the rows of its closed buckets and, if the latest one is asked for, that of its
+// open bucket.
 use crate::texts::{fault_text, last_text, pair_of, samples_text, split, word};
 use std::alloc::Global;
 use std::io;

@@ -1,5 +1,5 @@
-// A database whose calls are made again if they run out of memory. Such a call must leave all keys unchanged. With ample
-// memory none fails: bench/refuse-each makes each allocation fail, one per run.
+// A database whose calls are made again if they run out of memory. Such a call must leave all keys unchanged. With
+// ample memory none fails: bench/refuse-each makes each allocation fail, one per run.
 use crate::db::DbCalls;
 use crate::state::state_text;
 use crate::texts::split;
@@ -11,8 +11,8 @@ use ts_db::Db;
 use ts_sample::Steps;
 use ts_spec::Limits;
 
-/// `Retried` and its limits, as those of `Db`, whose calls it has. A call that changed a key though it ran out of memory
-/// has the answer `changed`.
+/// `Retried` and its limits, as those of `Db`, whose calls it has. A call that changed a key though it ran out of
+/// memory has the answer `changed`.
 #[derive(Drop)]
 pub(crate) struct RetriedCalls<L: Ledger> {
     calls: DbCalls<L>,

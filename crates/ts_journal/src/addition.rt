@@ -68,7 +68,8 @@ fn write_head(on: Option<Policy>, key_len: usize, block: &mut [u8; BLOCK]) -> us
 
 // The number of arguments, and the first of them.
 fn head_text(on: Option<Policy>) -> &'static [u8]
-    ensures text { result.now ≡ line_text 42 (decimal (if is_some on then 18 else 16)) ++ encoded_word (codes "TS.ADD") }
+    ensures text { result.now ≡ line_text 42 (decimal (if is_some on then 18 else 16))
+        ++ encoded_word (codes "TS.ADD") }
     ensures short { length result.now ≡ 17 }
 {
     match on {
