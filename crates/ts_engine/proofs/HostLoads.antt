@@ -17,6 +17,7 @@ use Rattle.ts_checkpoint.proofs.JournalLoads.{whole-loads, load-within}
 use Rattle.ts_words.specs.declared.status.Status.{Status}
 use Rattle.ts_words.specs.declared.status.Status.TheVariants as status
 use Rattle.ts_execution.specs.Journaling.{Snapshot, kept}
+use Rattle.ts_execution.specs.declared.loading.Extent.{Extent}
 use Rattle.ts_host.specs.Causes.{Faults}
 use Rattle.ts_host.specs.Http.{closes}
 use Rattle.ts_host.specs.Steps.{Takes, frames_of, weight}
@@ -24,7 +25,6 @@ use Rattle.ts_host.specs.declared.host.HostFault.TheVariants as fault
 use Rattle.ts_host.specs.declared.serving.HubEnd.{HubEnd}
 use Rattle.ts_host.specs.declared.serving.HubEnd.TheVariants as served
 use Rattle.ts_engine.specs.declared.host_end.HostEnd.{HostEnd}
-use Rattle.ts_engine.specs.declared.opened.Extent.{Extent}
 use Rattle.ts_engine.specs.declared.host_end.HostEnd.TheVariants as end
 use Rattle.ts_engine.specs.Answered.{IsOutOfMemoryOr}
 use Rattle.ts_engine.specs.HostEnds.{HasHostCauses, NoHostFault, status_of}

@@ -13,9 +13,9 @@ use Rattle.ts_checkpoint.proofs.JournalLoads.{whole-loads, load-within}
 use Rattle.ts_words.specs.declared.status.Status.{Status}
 use Rattle.ts_words.specs.declared.status.Status.TheVariants as status
 use Rattle.ts_execution.specs.Journaling.{kept, journaled}
-use Rattle.ts_engine.specs.declared.opened.LoadFault.{LoadFault}
-use Rattle.ts_engine.specs.declared.opened.Extent.{Extent}
-use Rattle.ts_engine.specs.declared.opened.LoadFault.TheVariants as unloaded
+use Rattle.ts_execution.specs.declared.loading.LoadFault.{LoadFault}
+use Rattle.ts_execution.specs.declared.loading.LoadFault.TheVariants as unloaded
+use Rattle.ts_execution.specs.declared.loading.Extent.{Extent}
 use Rattle.ts_engine.specs.declared.journaling.JournalEnd.{JournalEnd}
 use Rattle.ts_engine.specs.declared.journaling.JournalEnd.TheVariants as ended
 use Rattle.ts_engine.specs.declared.piped.End.{End}

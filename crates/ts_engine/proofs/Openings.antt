@@ -11,22 +11,25 @@ use Rattle.ts_journal.specs.Loading.{Load, BreaksAt}
 use Rattle.ts_checkpoint.specs.Loading.{load}
 use Rattle.ts_words.specs.declared.status.Status.{Status}
 use Rattle.ts_words.specs.declared.status.Status.TheVariants as status
-use Rattle.ts_engine.specs.declared.opened.LoadFault.{LoadFault}
-use Rattle.ts_engine.specs.declared.opened.LoadFault.TheVariants as unloaded
-use Rattle.ts_engine.specs.declared.opened.Extent.{Extent}
-use Rattle.ts_execution.specs.declared.loading.Loaded.{Loaded}
-use Rattle.ts_execution.specs.declared.loading.Loaded.TheVariants as loaded
-use Rattle.ts_execution.specs.JournalReplay.{IsLoaded}
+use Rattle.ts_execution.specs.declared.loading.LoadFault.{LoadFault}
+use Rattle.ts_execution.specs.declared.loading.LoadFault.TheVariants as unloaded
+use Rattle.ts_execution.specs.declared.loading.Extent.{Extent}
+use Rattle.ts_execution.specs.JournalReplay.{IsLoaded, IsJudged}
 use Rattle.ts_execution.proofs.Carried.{carries_as}
 use Rattle.ts_engine.specs.Answered.{IsOutOfMemoryOr}
 use Rattle.ts_engine.specs.Opening.{IsRead, IsOpened, NotLoaded, unloaded_status, status_loaded, status_opened}
 
-module _ (old new : DbView) (limits : WireLimits) (budget : ℕ) (before : Option (List ℕ)) where
-  -- the result of loading a journal whose content is known
-  abbrev Loads : Loaded → Type 0
-  Loads l = Simulates old new (λ from to. (bytes : List ℕ) → before ≡ Some bytes → IsLoaded l limits from to bytes)
+-- what was read, by how it was loaded
+read-by : (result : Result Extent LoadFault) (limits : WireLimits) (budget : ℕ) (from to : DbState) (journal : List ℕ) → IsLoaded result limits from to journal
+    → (IsJudged result → length journal < budget) → (result ≡ Err unloaded.Budget → budget ≤ length journal) → IsRead result limits budget from to journal
+read-by (Ok extent) limits budget from to journal is below enough = (is.0, is.1, below tt)
+read-by (Err (unloaded.Broken place)) limits budget from to journal is below enough = (is, below tt)
+read-by (Err unloaded.Journal) limits budget from to journal is below enough = tt
+read-by (Err unloaded.Budget) limits budget from to journal is below enough = enough refl
+read-by (Err unloaded.Memory) limits budget from to journal is below enough = tt
 
-  -- the result of reading such a journal
+module _ (old new : DbView) (limits : WireLimits) (budget : ℕ) (before : Option (List ℕ)) where
+  -- the result of reading a journal whose content is known
   abbrev Reads : Result Extent LoadFault → Type 0
   Reads result = Simulates old new (λ from to. (journal : List ℕ) → before ≡ Some journal → IsRead result limits budget from to journal)
 
@@ -34,28 +37,17 @@ module _ (old new : DbView) (limits : WireLimits) (budget : ℕ) (before : Optio
   abbrev Opens : Result Extent LoadFault → (after : Option (List ℕ)) → Type 0
   Opens result after = Simulates old new (λ from to. (journal : List ℕ) → before ≡ Some journal → IsOpened result limits budget from to journal after)
 
-  abbrev Below : Type 0
-  Below = (bytes : List ℕ) → before ≡ Some bytes → length bytes < budget
-
-  pub read-whole : (extent : Extent) → Loads (loaded.Whole extent.end extent.checkpoint) → Below → Reads (Ok extent)
-  read-whole extent loads below =
-      carries_as old new _ (λ from to. (journal : List ℕ) → before ≡ Some journal → IsRead (Ok extent) limits budget from to journal)
-      (λ from to is journal told. ((is journal told).0, (is journal told).1, below journal told)) loads
-
-  pub read-broken : (place : ℕ) → Loads (loaded.Broken place) → Below → Reads (Err (unloaded.Broken place))
-  read-broken place loads below =
-      carries_as old new _ (λ from to. (journal : List ℕ) → before ≡ Some journal → IsRead (Err (unloaded.Broken place)) limits budget from to journal)
-      (λ from to is journal told. (is journal told, below journal told)) loads
-
-  pub read-long : (l : Loaded) → Loads l → ((bytes : List ℕ) → before ≡ Some bytes → budget ≤ length bytes) → Reads (Err unloaded.Budget)
-  read-long l loads enough =
-      carries_as old new _ (λ from to. (journal : List ℕ) → before ≡ Some journal → IsRead (Err unloaded.Budget) limits budget from to journal)
-      (λ from to is journal told. enough journal told) loads
-
-  pub read-not : (l : Loaded) (fault : LoadFault) → Loads l → ((from to : DbState) (journal : List ℕ) → IsRead (Err fault) limits budget from to journal) → Reads (Err fault)
-  read-not l fault loads any =
-      carries_as old new _ (λ from to. (journal : List ℕ) → before ≡ Some journal → IsRead (Err fault) limits budget from to journal)
-      (λ from to is journal told. any from to journal) loads
+  -- it was opened, then loaded
+  pub read-loaded : (between : Option (List ℕ)) (result : Result Extent LoadFault) → between ≡ before
+      → Simulates old new (λ from to. (bytes : List ℕ) → between ≡ Some bytes → IsLoaded result limits from to bytes)
+      → ((bytes : List ℕ) → between ≡ Some bytes → IsJudged result → length bytes < budget)
+      → ((bytes : List ℕ) → between ≡ Some bytes → result ≡ Err unloaded.Budget → budget ≤ length bytes) → Reads result
+  read-loaded between result same loads below enough =
+      carries_as old new (λ from to. (bytes : List ℕ) → between ≡ Some bytes → IsLoaded result limits from to bytes)
+      (λ from to. (journal : List ℕ) → before ≡ Some journal → IsRead result limits budget from to journal)
+      (λ from to is journal told.
+      let known : between ≡ Some journal = same ∙ told in
+      read-by result limits budget from to journal (is journal known) (below journal known) (enough journal known)) loads
 
   cut-to : (between after : Option (List ℕ)) (place : ℕ) (journal : List ℕ) → between ≡ before → after ≡ front place between → before ≡ Some journal → after ≡ Some (take place journal)
   cut-to between after place journal same cut told = cut ∙ ap (front place) (same ∙ told)
@@ -80,14 +72,6 @@ module _ (old new : DbView) (limits : WireLimits) (budget : ℕ) (before : Optio
       carries_as old new (λ from to. (journal : List ℕ) → before ≡ Some journal → IsRead (Err fault) limits budget from to journal)
       (λ from to. (journal : List ℕ) → before ≡ Some journal → IsOpened (Err fault) limits budget from to journal after)
       (λ from to is journal told. (is journal told, same ∙ told)) reads
-
--- opening a journal, then reading it
-pub read-as : (old new : DbView) (limits : WireLimits) (budget : ℕ) (before between : Option (List ℕ)) (result : Result Extent LoadFault) → between ≡ before
-    → Reads old new limits budget between result → Reads old new limits budget before result
-read-as old new limits budget before between result same reads =
-    carries_as old new (λ from to. (journal : List ℕ) → between ≡ Some journal → IsRead result limits budget from to journal)
-    (λ from to. (journal : List ℕ) → before ≡ Some journal → IsRead result limits budget from to journal)
-    (λ from to is journal told. is journal (same ∙ told)) reads
 
 -- ---- a run that did not load its journal
 

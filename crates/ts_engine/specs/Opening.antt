@@ -7,9 +7,9 @@ use Rattle.ts_journal.specs.Loading.{Load, Loads, BreaksAt}
 use Rattle.ts_checkpoint.specs.Loading.{load, load_from}
 use Rattle.ts_words.specs.declared.status.Status.{Status}
 use Rattle.ts_words.specs.declared.status.Status.TheVariants as status
-use Rattle.ts_engine.specs.declared.opened.LoadFault.{LoadFault}
-use Rattle.ts_engine.specs.declared.opened.LoadFault.TheVariants as unloaded
-use Rattle.ts_engine.specs.declared.opened.Extent.{Extent}
+use Rattle.ts_execution.specs.declared.loading.LoadFault.{LoadFault}
+use Rattle.ts_execution.specs.declared.loading.LoadFault.TheVariants as unloaded
+use Rattle.ts_execution.specs.declared.loading.Extent.{Extent}
 
 -- the status if the journal was not loaded
 abbrev pub unloaded_status : LoadFault → Status

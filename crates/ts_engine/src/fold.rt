@@ -8,11 +8,11 @@ ghost use Rattle.ts_engine.specs.Folded.{EndsAs, Folded, HasFoldLine, status_fol
 ghost use Rattle.ts_engine.specs.Top.{AreUsable};
 
 use crate::folding::fold_journal;
-use crate::opened::{LoadFault, read_journal, unloaded_place, unloaded_status};
+use crate::opened::{read_journal, unloaded_place, unloaded_status};
 use crate::status::report_host;
 use std::alloc::Global;
 use ts_db::{Db, Limits};
-use ts_execution::CheckpointFault;
+use ts_execution::{CheckpointFault, LoadFault};
 use ts_io::{Log, Sink};
 use ts_words::{LastCauses, Status};
 

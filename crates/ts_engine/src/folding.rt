@@ -6,22 +6,19 @@ ghost use Rattle.ts_journal.specs.Limits.{IsBounded};
 ghost use Rattle.ts_execution.specs.Limits.{CanRead};
 ghost use Rattle.ts_engine.specs.Folding.{Folds, HasCheckpoint};
 
-use crate::opened::Extent;
 use std::alloc::Global;
 use ts_db::Db;
-use ts_execution::{CheckpointFault, write_checkpoint};
+use ts_execution::{CheckpointFault, Extent, write_checkpoint};
 use ts_io::{Failed, Log};
 use ts_resp::WireLimits;
 
 /// A fold is due only if more bytes than this are behind the checkpoint: 64 MiB.
 const LEAST_CHANGES: u64 = 64 << 20;
 
-impl Extent {
-    // Whether a fold is worth its time: more than 64 MiB are behind the checkpoint, and more than it has itself.
-    fn is_fold_due(self) -> bool {
-        let changes = self.end.saturating_sub(self.checkpoint);
-        changes > LEAST_CHANGES && changes > self.checkpoint
-    }
+// Whether a fold is worth its time: more than 64 MiB are behind the checkpoint, and more than it has itself.
+fn is_fold_due(extent: Extent) -> bool {
+    let changes = extent.end.saturating_sub(extent.checkpoint);
+    changes > LEAST_CHANGES && changes > extent.checkpoint
 }
 
 /// Folds the open journal, from which this database was loaded, if that is due. Without memory for it the journal stays
@@ -41,7 +38,7 @@ pub(crate) fn fold_if_due<J: Log>(
     ensures fault { OnErr result (Rose (J.faults log.old) (J.faults log.new)) }
     ensures no_fault { OnOk result (J.faults log.new ≡ J.faults log.old) }
 {
-    if !extent.is_fold_due() {
+    if !is_fold_due(extent) {
         return Ok(());
     }
     match fold_journal(alloc, db, log, limits) {

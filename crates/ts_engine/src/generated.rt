@@ -6,12 +6,13 @@ ghost use Rattle.ts_db.specs.DbState.{DbState, Represents};
 ghost use Rattle.ts_engine.specs.Generated.{IsSummary, WritesSummary, Workload};
 ghost use Rattle.ts_engine.specs.Top.{AreUsable};
 
-use crate::piped::{End, PIECE, pipe};
+use crate::piped::{End, pipe};
 use crate::status::report;
 use std::alloc::Global;
 use std::marker::Brand;
 use std::sync::ledger::{Blank, Ledger};
 use ts_db::{Db, Limits};
+use ts_execution::PIECE;
 use ts_gen::script;
 use ts_io::{CountSink, MemClock, MemSource, Sink, write_all_counted};
 use ts_sample::Steps;

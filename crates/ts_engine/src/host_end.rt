@@ -2,7 +2,8 @@
 ghost use Rattle.std.specs.Prelude.{◌≡◌};
 ghost use Rattle.ts_engine.specs.HostEnds as ends;
 
-use crate::opened::{LoadFault, unloaded_place, unloaded_status};
+use crate::opened::{unloaded_place, unloaded_status};
+use ts_execution::LoadFault;
 use ts_host::{HostFault, HubEnd};
 use ts_words::Status;
 

@@ -3,11 +3,11 @@ ghost use Rattle.std.specs.Prelude.{◌≡◌};
 ghost use Rattle.ts_execution.specs.Journaling.{journal_handler};
 ghost use Rattle.ts_engine.specs.Journaled as journaled;
 
-use crate::opened::{LoadFault, unloaded_place, unloaded_status};
+use crate::opened::{unloaded_place, unloaded_status};
 use crate::piped::End;
 use std::sync::ledger::Ledger;
 use ts_db::{Db, Hints};
-use ts_execution::Handler;
+use ts_execution::{Handler, LoadFault};
 use ts_io::{Clock, Failed, Log, Sink, write_all_counted};
 use ts_resp::{Out, Word};
 use ts_sample::Steps;

@@ -9,32 +9,10 @@ ghost use Rattle.ts_engine.specs.Opening as opening;
 
 use std::alloc::Global;
 use ts_db::Db;
-use ts_execution::{Loaded, load};
+use ts_execution::{Extent, LoadFault, load};
 use ts_io::Log;
 use ts_resp::WireLimits;
 use ts_words::Status;
-
-/// Why a journal was not loaded.
-#[derive(Clone, Copy, Debug, PartialEq, Eq)]
-pub(crate) enum LoadFault {
-    /// It was read to its end, and breaks at this offset.
-    Broken(u64),
-    /// It could not be opened, read or truncated.
-    Journal,
-    /// It is not shorter than the budget.
-    Budget,
-    /// Out of memory.
-    Memory,
-}
-
-/// How far a journal goes that was read to its end.
-#[derive(Clone, Copy, Debug, PartialEq, Eq)]
-pub(crate) struct Extent {
-    /// Its whole requests end at this offset.
-    pub(crate) end: u64,
-    /// The checkpoint at its front ends at this offset; 0 without one.
-    pub(crate) checkpoint: u64,
-}
 
 // Reads the journal as `read_journal` does, and truncates it after its last whole request.
 pub(crate) fn open_journal<J: Log>(
@@ -82,36 +60,8 @@ pub(crate) fn read_journal<J: Log>(
     ensures no_fault { result ≢ Err LoadFault.Journal → J.faults log.new ≡ J.faults log.old }
 {
     match log.open(name) {
-        Ok(()) => load_journal(alloc, db, log, limits, budget),
+        Ok(()) => load(alloc, db, log, limits, budget),
         Err(_) => Err(LoadFault::Journal),
-    }
-}
-
-// The same for an open journal.
-fn load_journal<J: Log>(
-    alloc: Global,
-    db: &mut Db,
-    log: &mut J,
-    limits: WireLimits,
-    budget: u64,
-) -> Result<Extent, LoadFault>
-    requires limits { CanRead limits }
-    requires bounded { IsBounded limits }
-    requires start { J.place log.old ≡ 0 }
-    ensures read { Simulates db.old db.new (λ from to. (journal : List ℕ) → J.content log.old ≡ Some journal
-        → IsRead result limits budget from to journal) }
-    ensures content { J.content log.new ≡ J.content log.old }
-    ensures within { IfOk result (λ extent. extent.end ≤ J.place log.new) }
-    ensures later { J.faults log.old ≤ J.faults log.new }
-    ensures fault { result ≡ Err LoadFault.Journal → Rose (J.faults log.old) (J.faults log.new) }
-    ensures no_fault { result ≢ Err LoadFault.Journal → J.faults log.new ≡ J.faults log.old }
-{
-    match load(alloc, db, log, limits, budget) {
-        Loaded::Whole { end, checkpoint } => Ok(Extent { end, checkpoint }),
-        Loaded::Broken(place) => Err(LoadFault::Broken(place)),
-        Loaded::Fault => Err(LoadFault::Journal),
-        Loaded::Budget => Err(LoadFault::Budget),
-        Loaded::Memory => Err(LoadFault::Memory),
     }
 }
 

@@ -10,7 +10,7 @@ use crate::ending::{end_of_input, end_of_piece};
 use crate::session::Session;
 use std::alloc::Global;
 use ts_db::Db;
-use ts_execution::{Handler, Plain};
+use ts_execution::{Handler, PIECE, Plain};
 use ts_io::{Clock, Sink, Source};
 use ts_resp::{Protocol, WireLimits};
 
@@ -49,9 +49,6 @@ pub(crate) struct StreamLimits {
     pub(crate) wire: WireLimits,
     pub(crate) budget: u64,
 }
-
-/// The most bytes that one read asks for.
-pub(crate) const PIECE: usize = 4096;
 
 // The result of one read and of the requests that it completes.
 #[derive(Clone, Copy)]

@@ -1,11 +1,12 @@
 -- Where the complete requests of a journal end.
-use Rattle.std.specs.Prelude.{Option, None, Some, IfNone, IfSome}
+use Rattle.std.specs.Prelude.{Option, None, Some, IfNone, IfSome, Result, IfOk}
 use Rattle.std.proofs.Common.{◌≡◌, ◌≤◌, ℕ, ◌+◌, Bool, true, false, List, [], ◌∷◌, length, sym, subst, arith}
 use Rattle.ts_resp.specs.Reading.{Reading, fed, unfinished, begun_after, begun_at_end, begun_on, begun_at}
 use Rattle.ts_spec.specs.Wire.{Partial, Mode, Start, Text, Count, CountFeed, Mark, Length, LengthFeed, Body, WordReturn, WordFeed, Move, Goto, Whole, Fault, move}
 use Rattle.ts_spec.specs.declared.wire.WireLimits.{WireLimits}
-use Rattle.ts_execution.specs.JournalReplay.{HasNoWholeRequest, IsCurrent, EndsWithin, verdict, verdict_at, verdict_in, verdict_by}
-use Rattle.ts_execution.specs.declared.loading.Loaded.{Loaded}
+use Rattle.ts_execution.specs.JournalReplay.{HasNoWholeRequest, IsCurrent, verdict, verdict_at, verdict_in, verdict_by}
+use Rattle.ts_execution.specs.declared.loading.LoadFault.{LoadFault}
+use Rattle.ts_execution.specs.declared.loading.Extent.{Extent}
 use Rattle.ts_execution.specs.declared.load_state.Loading.{Loading}
 use Rattle.ts_execution.specs.declared.stage.Stage.{Stage}
 use Rattle.ts_execution.specs.declared.stage.Stage.TheVariants as stage
@@ -49,6 +50,10 @@ at-within : (so_far : Option Partial) (limits : WireLimits) (place begin bound :
 at-within (Some so_far) limits place begin bound bytes within all = within
 at-within None limits place begin bound bytes within all = begun-within limits place begin bound Start bytes within all
 
+-- the complete requests end within the bytes read
+abbrev EndsWithin : Result Extent LoadFault → (read : ℕ) → Type 0
+EndsWithin result read = IfOk result (λ (extent : Extent). extent.end ≤ read)
+
 ends-at : (place : Option ℕ) (checkpoint : ℕ) (flag : Bool) (taken read : ℕ) → IfSome place (λ at. at ≤ read) → taken ≤ read → EndsWithin (verdict_at place checkpoint flag taken) read
 ends-at None checkpoint flag taken read is within = within
 ends-at (Some place) checkpoint true taken read is within = is
@@ -67,5 +72,5 @@ ends-by None l flag taken read current within before =
     ends-in l.stage l.end (unfinished r) flag taken read
     (at-within r.so_far r.limits r.place r.begin read r.unread (omega (arith, current.begun, within, before)) (omega (arith, within, before))) before
 
-pub ends-within : (answer : Loaded) (l : Loading) (flag : Bool) (taken read : ℕ) → answer ≡ verdict l flag taken → IsCurrent l → fed l.reader ≤ taken → taken ≤ read → EndsWithin answer read
-ends-within answer l flag taken read is current within before = subst (λ (a : Loaded). EndsWithin a read) (sym is) (ends-by l.broken l flag taken read current within before)
+pub ends-within : (answer : Result Extent LoadFault) (l : Loading) (flag : Bool) (taken read : ℕ) → answer ≡ verdict l flag taken → IsCurrent l → fed l.reader ≤ taken → taken ≤ read → EndsWithin answer read
+ends-within answer l flag taken read is current within before = subst (λ (a : Result Extent LoadFault). EndsWithin a read) (sym is) (ends-by l.broken l flag taken read current within before)

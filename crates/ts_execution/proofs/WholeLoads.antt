@@ -1,5 +1,5 @@
 -- Loading a whole journal adds up.
-use Rattle.std.specs.Prelude.{Option, None, Some, IfNone}
+use Rattle.std.specs.Prelude.{Option, None, Some, IfNone, Result, Ok, Err}
 use Rattle.std.specs.Option.{unwrap_or}
 use Rattle.std.specs.Io.KnownBytes.{Consumes, IsAtEnd}
 use Rattle.std.proofs.KnownBytes.{Consumes-nil, Consumes-trans}
@@ -20,8 +20,9 @@ use Rattle.ts_checkpoint.specs.Fronts.{front_size}
 use Rattle.ts_checkpoint.specs.Loading.{load_start}
 use Rattle.ts_execution.specs.JournalReplay.{loads_by, loads, rest_of, HasNoWholeRequest, IsCurrent, LoadsOn, ReplaysPiece, IsLoaded, still_record, verdict, verdict_at, verdict_in, verdict_by}
 use Rattle.ts_execution.specs.Stages.{Rest, load_at, rest_at}
-use Rattle.ts_execution.specs.declared.loading.Loaded.{Loaded}
-use Rattle.ts_execution.specs.declared.loading.Loaded.TheVariants as loaded
+use Rattle.ts_execution.specs.declared.loading.LoadFault.{LoadFault}
+use Rattle.ts_execution.specs.declared.loading.LoadFault.TheVariants as unloaded
+use Rattle.ts_execution.specs.declared.loading.Extent.{Extent}
 use Rattle.ts_execution.specs.declared.load_state.Loading.{Loading}
 use Rattle.ts_execution.specs.declared.stage.Stage.{Stage}
 use Rattle.ts_execution.specs.declared.stage.Stage.TheVariants as stage
@@ -154,7 +155,7 @@ module _ (wire : WireLimits) (from to : DbState) (bytes : List ℕ) (flag : Bool
 
   -- the flag tells how the unfinished request begins
   found-inside : (at checkpoint : ℕ) (b : Bool) → Loading_gives (length bytes) to.state at → b ≡ begins_as_record (drop at bytes) → checkpoint ≡ front_size (stream_from_start wire bytes)
-      → IsLoaded (if b then loaded.Whole at checkpoint else loaded.Broken at) wire from to bytes
+      → IsLoaded (if b then Ok (record { end = at; checkpoint = checkpoint }) else Err (unloaded.Broken at)) wire from to bytes
   found-inside at checkpoint true loads rest size =
       (by-rest bytes (load_start from.limits from.state (length bytes) (stream_from_start wire bytes)) to.state at true loads (sym rest), limits, size)
   found-inside at checkpoint false loads rest size =
@@ -210,13 +211,13 @@ found-at None wire now flag from to bytes taken limits count current loads rest 
     (λ size. loads size ∙ ap (load_at now.stage from.limits to.state now.end size) current.rest)
     (rest refl ∙ ap (rest_at now.stage now.end) current.rest)
 
-read-all : (wire : WireLimits) (left rest : Option (List ℕ)) (taken : ℕ) (now : Loading) (flag : Bool) (a b : DbView) (answer : Loaded) → answer ≡ verdict now flag taken → ReadSoFar wire left rest taken a b now flag
+read-all : (wire : WireLimits) (left rest : Option (List ℕ)) (taken : ℕ) (now : Loading) (flag : Bool) (a b : DbView) (answer : Result Extent LoadFault) → answer ≡ verdict now flag taken → ReadSoFar wire left rest taken a b now flag
     → IsAtEnd rest → IsCurrent now → Simulates a b (λ from to. (bytes : List ℕ) → left ≡ Some bytes → IsLoaded answer wire from to bytes)
 read-all wire left rest taken now flag a b answer answered so at_end current =
     carries_as a b (λ from to. LoadsFrom wire so.bytes now flag from to) (λ from to. (bytes : List ℕ) → left ≡ Some bytes → IsLoaded answer wire from to bytes)
     (λ from to is bytes told.
     let all : bytes ≡ so.bytes = all-read left rest so.bytes bytes told so.took at_end ∙ append-nil so.bytes in
-    subst (λ (l : Loaded). IsLoaded l wire from to bytes) (sym answered)
+    subst (λ (r : Result Extent LoadFault). IsLoaded r wire from to bytes) (sym answered)
     (subst (λ (l : List ℕ). IsLoaded (verdict now flag taken) wire from to l) (sym all)
     (found-at now.broken wire now flag from to so.bytes taken is.limits so.count current
     (λ size. ap (λ (l : List ℕ). load_start from.limits from.state size (stream_from_start wire l)) (sym (append-nil so.bytes)) ∙ is.on size [])
@@ -228,7 +229,7 @@ unread-start content place bytes start told = ap (unread content) start ∙ ap (
 
 module _ (wire : WireLimits) (content rest : Option (List ℕ)) (place taken : ℕ) (start : place ≡ 0) (now : Loading) (flag : Bool) (a b : DbView) (so : ReadSoFar wire (unread content place) rest taken a b now flag) where
   -- the result is final if the journal was read from start to end
-  read-from-start : (answer : Loaded) → answer ≡ verdict now flag taken → IsAtEnd rest → IsCurrent now
+  read-from-start : (answer : Result Extent LoadFault) → answer ≡ verdict now flag taken → IsAtEnd rest → IsCurrent now
       → Simulates a b (λ from to. (bytes : List ℕ) → content ≡ Some bytes → IsLoaded answer wire from to bytes)
   read-from-start answer answered at_end current =
       carries_as a b (λ from to. (bytes : List ℕ) → unread content place ≡ Some bytes → IsLoaded answer wire from to bytes) (λ from to. (bytes : List ℕ) → content ≡ Some bytes → IsLoaded answer wire from to bytes)
@@ -244,7 +245,7 @@ module _ (wire : WireLimits) (content rest : Option (List ℕ)) (place taken : �
 
 -- a read without bytes ends it
 pub read-to-end : (wire : WireLimits) (content between rest : Option (List ℕ)) (place taken count : ℕ) → place ≡ 0 → (old new : Loading) (was now : Bool) (a b c : DbView) → ReadSoFar wire (unread content place) between taken a b old was
-    → ReplaysPiece taken count was now between rest old new b c → count ≡ 0 → IsAtEnd rest → (answer : Loaded) → answer ≡ verdict new now taken
+    → ReplaysPiece taken count was now between rest old new b c → count ≡ 0 → IsAtEnd rest → (answer : Result Extent LoadFault) → answer ≡ verdict new now taken
     → Simulates a c (λ from to. (bytes : List ℕ) → content ≡ Some bytes → IsLoaded answer wire from to bytes)
 read-to-end wire content between rest place taken count start old new was now a b c so takes none at_end answer answered =
     read-from-start wire content rest place taken start new now a c (read-last wire (unread content place) between rest taken count old new was now a b c none so takes) answer answered at_end takes.current

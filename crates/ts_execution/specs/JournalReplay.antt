@@ -26,8 +26,9 @@ use Rattle.ts_execution.specs.declared.journal_replay.ReplayResult.{ReplayResult
 use Rattle.ts_execution.specs.declared.journal_replay.ReplayResult.TheVariants as replay_result
 use Rattle.ts_execution.specs.declared.journal_piece.Piece.{Piece}
 use Rattle.ts_execution.specs.declared.journal_piece.Piece.TheVariants as piece
-use Rattle.ts_execution.specs.declared.loading.Loaded.{Loaded}
-use Rattle.ts_execution.specs.declared.loading.Loaded.TheVariants as loaded
+use Rattle.ts_execution.specs.declared.loading.LoadFault.{LoadFault}
+use Rattle.ts_execution.specs.declared.loading.LoadFault.TheVariants as unloaded
+use Rattle.ts_execution.specs.declared.loading.Extent.{Extent}
 use Rattle.ts_execution.specs.declared.load_state.Loading.{Loading}
 use Rattle.ts_execution.specs.declared.stage.Stage.{Stage}
 use Rattle.ts_execution.specs.declared.stage.Stage.TheVariants as stage
@@ -133,41 +134,37 @@ IfRead other what = ⊤
 -- ---- the whole journal
 
 -- how a journal with these bytes was loaded
-abbrev pub IsLoaded : Loaded → WireLimits → (from to : DbState) → List ℕ → Type 0
-IsLoaded (loaded.Whole place checkpoint) wire from to bytes =
-    (load_from from.limits wire from.state bytes ≡ Loads to.state place) × (to.limits ≡ from.limits)
-    × (checkpoint ≡ front_size (stream_at (journal_limits wire) 0 bytes))
-IsLoaded (loaded.Broken place) wire from to bytes = load_from from.limits wire from.state bytes ≡ BreaksAt place
-IsLoaded other wire from to bytes = ⊤
+abbrev pub IsLoaded : Result Extent LoadFault → WireLimits → (from to : DbState) → List ℕ → Type 0
+IsLoaded (Ok extent) wire from to bytes =
+    (load_from from.limits wire from.state bytes ≡ Loads to.state extent.end) × (to.limits ≡ from.limits)
+    × (extent.checkpoint ≡ front_size (stream_at (journal_limits wire) 0 bytes))
+IsLoaded (Err (unloaded.Broken place)) wire from to bytes = load_from from.limits wire from.state bytes ≡ BreaksAt place
+IsLoaded (Err other) wire from to bytes = ⊤
 
 -- the result depends on the content alone: the journal loads, or it breaks
-abbrev pub IsJudged : Loaded → Type 0
-IsJudged (loaded.Whole place checkpoint) = ⊤
-IsJudged (loaded.Broken place) = ⊤
-IsJudged other = ⊥
-
--- the complete requests end within the bytes read
-abbrev pub EndsWithin : Loaded → (read : ℕ) → Type 0
-EndsWithin (loaded.Whole place checkpoint) read = place ≤ read
-EndsWithin other read = ⊤
+abbrev pub IsJudged : Result Extent LoadFault → Type 0
+IsJudged (Ok extent) = ⊤
+IsJudged (Err (unloaded.Broken place)) = ⊤
+IsJudged (Err other) = ⊥
 
 -- the result for a journal of `taken` bytes that has a checkpoint of this size, if its unfinished request begins at
 -- this offset
-abbrev pub verdict_at : Option ℕ → (checkpoint : ℕ) → (is_record : Bool) → (taken : ℕ) → Loaded
-verdict_at None checkpoint is_record taken = loaded.Whole taken checkpoint
-verdict_at (Some place) checkpoint is_record taken = if is_record then loaded.Whole place checkpoint else loaded.Broken place
+abbrev pub verdict_at : Option ℕ → (checkpoint : ℕ) → (is_record : Bool) → (taken : ℕ) → Result Extent LoadFault
+verdict_at None checkpoint is_record taken = Ok (record { end = taken; checkpoint = checkpoint })
+verdict_at (Some place) checkpoint is_record taken =
+    if is_record then Ok (record { end = place; checkpoint = checkpoint }) else Err (unloaded.Broken place)
 
 -- the same, by the stage at its end: it breaks after its last request if a part is still to come
-abbrev pub verdict_in : Stage → (end : ℕ) → Option ℕ → (is_record : Bool) → (taken : ℕ) → Loaded
+abbrev pub verdict_in : Stage → (end : ℕ) → Option ℕ → (is_record : Bool) → (taken : ℕ) → Result Extent LoadFault
 verdict_in stage.Start end begin is_record taken = verdict_at begin 0 is_record taken
-verdict_in (stage.Parts more current) end begin is_record taken = loaded.Broken end
+verdict_in (stage.Parts more current) end begin is_record taken = Err (unloaded.Broken end)
 verdict_in (stage.Changes checkpoint) end begin is_record taken = verdict_at begin checkpoint is_record taken
 
 -- the same, unless the journal broke before
-abbrev pub verdict_by : Option ℕ → Loading → (is_record : Bool) → (taken : ℕ) → Loaded
-verdict_by (Some place) l is_record taken = loaded.Broken place
+abbrev pub verdict_by : Option ℕ → Loading → (is_record : Bool) → (taken : ℕ) → Result Extent LoadFault
+verdict_by (Some place) l is_record taken = Err (unloaded.Broken place)
 verdict_by None l is_record taken = verdict_in l.stage l.end (unfinished l.reader) is_record taken
 
 -- the same, from the state of the load
-abbrev pub verdict : Loading → (is_record : Bool) → (taken : ℕ) → Loaded
+abbrev pub verdict : Loading → (is_record : Bool) → (taken : ℕ) → Result Extent LoadFault
 verdict l is_record taken = verdict_by l.broken l is_record taken

@@ -32,5 +32,5 @@ pub use checkpoint::{CheckpointFault, write_checkpoint};
 pub use execution::{execute, triples_with_memory_are_one_step};
 pub use handler::{Handler, Plain};
 pub use handling::handle_request;
-pub use loading::{Loaded, load};
+pub use loading::{Extent, LoadFault, PIECE, load};
 pub use recorded::{Handled, handle_recorded};

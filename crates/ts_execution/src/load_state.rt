@@ -4,7 +4,7 @@ ghost use Rattle.ts_resp.specs.Reading.{fed};
 ghost use Rattle.ts_db.specs.DbState.{Simulates};
 ghost use Rattle.ts_execution.specs.JournalReplay.{LoadsIf, IsCurrent, verdict, verdict_at};
 
-use crate::loading::Loaded;
+use crate::loading::{Extent, LoadFault};
 use crate::next_change::{NextChange, next_change};
 use crate::stage::Stage;
 use std::sync::ledger::{Blank, Ledger};
@@ -29,14 +29,14 @@ pub(crate) struct Loading {
 impl Loading {
     /// The result, if the journal ends after `taken` bytes. It breaks there if a part of its checkpoint is missing, or
     /// if no record begins with its unfinished request.
-    pub(crate) fn verdict(&self, taken: u64, is_record: bool) -> Loaded
+    pub(crate) fn verdict(&self, taken: u64, is_record: bool) -> Result<Extent, LoadFault>
         ensures { result ≡ verdict self.now is_record taken }
     {
         match self.broken {
-            Some(place) => Loaded::Broken(place),
+            Some(place) => Err(LoadFault::Broken(place)),
             None => match &self.stage {
                 Stage::Start => whole_or_broken(self.reader.place(), 0, is_record, taken),
-                Stage::Parts { .. } => Loaded::Broken(self.end),
+                Stage::Parts { .. } => Err(LoadFault::Broken(self.end)),
                 Stage::Changes { checkpoint } => {
                     whole_or_broken(self.reader.place(), *checkpoint, is_record, taken)
                 }
@@ -114,15 +114,20 @@ impl Loading {
 
 // The result for a journal of `taken` bytes whose unfinished request begins at this offset, if it has one. It breaks
 // the journal unless a record begins so.
-fn whole_or_broken(begin: Option<u64>, checkpoint: u64, is_record: bool, taken: u64) -> Loaded
+fn whole_or_broken(
+    begin: Option<u64>,
+    checkpoint: u64,
+    is_record: bool,
+    taken: u64,
+) -> Result<Extent, LoadFault>
     ensures { result ≡ verdict_at begin checkpoint is_record taken }
 {
     match begin {
-        None => Loaded::Whole {
+        None => Ok(Extent {
             end: taken,
             checkpoint,
-        },
-        Some(end) if is_record => Loaded::Whole { end, checkpoint },
-        Some(place) => Loaded::Broken(place),
+        }),
+        Some(end) if is_record => Ok(Extent { end, checkpoint }),
+        Some(place) => Err(LoadFault::Broken(place)),
     }
 }

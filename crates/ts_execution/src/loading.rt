@@ -1,10 +1,10 @@
 // Loads a journal.
-ghost use Rattle.std.specs.Prelude.{◌≡◌, ◌≢◌, ℕ, ◌<◌, ◌≤◌, List, length, Some};
+ghost use Rattle.std.specs.Prelude.{◌≡◌, ◌≢◌, ℕ, ◌<◌, ◌≤◌, List, length, Some, Err, IfOk};
 ghost use Rattle.ts_io.specs.Causes.{Rose};
 ghost use Rattle.ts_db.specs.DbState.{Simulates};
 ghost use Rattle.ts_journal.specs.Limits.{IsBounded};
 ghost use Rattle.ts_execution.specs.Limits.{CanRead};
-ghost use Rattle.ts_execution.specs.JournalReplay.{IsLoaded, IsJudged, EndsWithin};
+ghost use Rattle.ts_execution.specs.JournalReplay.{IsLoaded, IsJudged};
 
 use crate::journal_piece::{Piece, read_piece};
 use crate::load_state::Loading;
@@ -15,28 +15,30 @@ use ts_io::Log;
 use ts_journal::limits_of;
 use ts_resp::{Reader, WireLimits};
 
-/// How a journal was loaded.
+/// Why a journal was not loaded.
 #[derive(Clone, Copy, Debug, PartialEq, Eq)]
-pub enum Loaded {
-    /// Read to its end.
-    Whole {
-        /// All complete requests, which end at this offset, were restored and replayed.
-        end: u64,
-        /// The checkpoint at its front ends at this offset; 0 without one.
-        checkpoint: u64,
-    },
-    /// Read to its end. The journal breaks at this offset.
+pub enum LoadFault {
+    /// It was read to its end, and breaks at this offset.
     Broken(u64),
-    /// A read failed.
-    Fault,
-    /// The budget was read.
+    /// It could not be opened, read or truncated.
+    Journal,
+    /// It is not shorter than the budget.
     Budget,
     /// Out of memory.
     Memory,
 }
 
+/// How far a journal goes that was read to its end.
+#[derive(Clone, Copy, Debug, PartialEq, Eq)]
+pub struct Extent {
+    /// Its whole requests end at this offset.
+    pub end: u64,
+    /// The checkpoint at its front ends at this offset; 0 without one.
+    pub checkpoint: u64,
+}
+
 /// The most bytes that one read asks for.
-const PIECE: usize = 4096;
+pub const PIECE: usize = 4096;
 
 /// Restores the checkpoint at the front of a journal, if it has one, and replays the changes behind it, from offset 0.
 /// Reads at most `budget` bytes, in pieces. So besides the database, only an unfinished request is in memory, and a
@@ -47,21 +49,21 @@ pub fn load<J: Log>(
     log: &mut J,
     limits: WireLimits,
     budget: u64,
-) -> Loaded
+) -> Result<Extent, LoadFault>
     requires limits { CanRead limits }
     requires bounded { IsBounded limits }
     requires start { J.place log.old ≡ 0 }
     ensures loaded { Simulates db.old db.new
         (λ from to. (bytes : List ℕ) → J.content log.old ≡ Some bytes → IsLoaded result limits from to bytes) }
     ensures content { J.content log.new ≡ J.content log.old }
-    ensures within { EndsWithin result (J.place log.new) }
-    ensures spent { result ≡ Loaded.Budget → J.place log.new ≡ budget }
-    ensures enough { (bytes : List ℕ) → J.content log.old ≡ Some bytes → result ≡ Loaded.Budget
+    ensures within { IfOk result (λ extent. extent.end ≤ J.place log.new) }
+    ensures spent { result ≡ Err LoadFault.Budget → J.place log.new ≡ budget }
+    ensures enough { (bytes : List ℕ) → J.content log.old ≡ Some bytes → result ≡ Err LoadFault.Budget
         → budget ≤ length bytes }
     ensures judged { (bytes : List ℕ) → J.content log.old ≡ Some bytes → IsJudged result → length bytes < budget }
     ensures later { J.faults log.old ≤ J.faults log.new }
-    ensures fault { result ≡ Loaded.Fault → Rose (J.faults log.old) (J.faults log.new) }
-    ensures no_fault { result ≢ Loaded.Fault → J.faults log.new ≡ J.faults log.old }
+    ensures fault { result ≡ Err LoadFault.Journal → Rose (J.faults log.old) (J.faults log.new) }
+    ensures no_fault { result ≢ Err LoadFault.Journal → J.faults log.new ≡ J.faults log.old }
 {
     let mut loading = Loading {
         reader: Reader::new(alloc, limits_of(limits)),
@@ -85,9 +87,9 @@ pub fn load<J: Log>(
         ) {
             Piece::Read(0) => return loading.verdict(taken, is_record),
             Piece::Read(count) => taken += count as u64,
-            Piece::Fault => return Loaded::Fault,
-            Piece::Memory => return Loaded::Memory,
+            Piece::Fault => return Err(LoadFault::Journal),
+            Piece::Memory => return Err(LoadFault::Memory),
         }
     }
-    Loaded::Budget
+    Err(LoadFault::Budget)
 }

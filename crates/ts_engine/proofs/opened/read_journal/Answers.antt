@@ -1,13 +1,13 @@
 use Rattle.std.specs.Prelude.{Some, List, ℕ, ⊤}
-use Rattle.std.proofs.Common.{◌≡◌, ◌∙◌}
+use Rattle.std.proofs.Common.{◌≡◌}
 use Rattle.ts_execution.proofs.Carried.{carries_none}
-use Rattle.ts_engine.proofs.Openings.{read-as}
+use Rattle.ts_engine.proofs.Openings.{read-loaded}
 use Rattle.ts_engine.proofs.opened.read_journal.Goals as goal
 
 pub returns-in-Ok-clause-read : goal.returns-in-Ok-clause-read
 returns-in-Ok-clause-read g c =
-    read-as c.args.db.now c.load_journal.new.db c.args.limits c.args.budget (g.J.Log.content c.args.log.now) (g.J.Log.content c.open.new.self)
-    c.load_journal.result c.open.ensures.content c.load_journal.ensures.read
+    read-loaded c.args.db.now c.load.new.db c.args.limits c.args.budget (g.J.Log.content c.args.log.now) (g.J.Log.content c.open.new.self)
+    c.load.result c.open.ensures.content c.load.ensures.loaded c.load.ensures.judged c.load.ensures.enough
 
 pub returns-in-Err-clause-read : goal.returns-in-Err-clause-read
 returns-in-Err-clause-read g c =
