@@ -103,6 +103,14 @@ below_any reached old new link later slot updates within longer below = λ at ab
         absurd (omega (arith, here, above, within))
     go at above false apart = updates.2 at (other_key link at apart) ∙ below at (omega (arith, above, longer))
 
+-- a map without one of its entries
+pub below_without : (reached : ℕ) (old new : BTreeMap ℕ (Option ℕ)) (link : ℕ) → Updates nat_cmp old new link None → AreBelow reached old → AreBelow reached new
+below_without reached old new link updates below at above = go (at == link) refl
+  where
+    go : (test : Bool) → (at == link) ≡ test → get nat_cmp new at ≡ None
+    go true same = ap (get nat_cmp new) (eqb-true at link same) ∙ updates.1
+    go false apart = updates.2 at (other_key link at apart) ∙ below at above
+
 -- the index of a new connection is none, as before
 pub index_next : (next : ℕ) (old new : BTreeMap ℕ (Option ℕ)) → Updates nat_cmp old new next (Some None) → AreBelow next old → (at : ℕ) → index_in new at ≡ index_in old at
 index_next next old new updates below at = go (at == next) refl

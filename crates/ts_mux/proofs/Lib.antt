@@ -16,7 +16,9 @@ pub mod OneConnection
 pub mod OrderAtWork
 pub mod OrderLemmas
 pub mod OwnReaders
+pub mod RecentLemmas
 pub mod Starting
 pub mod Streams
+pub mod UnreadBytes
 pub mod Unsent
 pub mod WrittenHeaders

@@ -7,4 +7,5 @@ pub mod Muxing
 pub mod NextFrames
 pub mod Order
 pub mod OwnReaders
+pub mod RecentIndexes
 pub mod Turns

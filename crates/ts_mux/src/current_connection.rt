@@ -32,6 +32,9 @@ pub(crate) fn next_turn(link: u64, reader: &mut Reader) -> Turn
     ensures words { IfRequest result (λ words. words ≢ []) }
     ensures fed { fed reader.new ≡ fed reader.old }
 {
+    if !reader.has_unread() {
+        return Turn::NotYet;
+    }
     match reader.next() {
         Next::Request(words) => Turn::Request(link, words),
         Next::NotYet => Turn::NotYet,

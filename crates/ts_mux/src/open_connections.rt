@@ -2,13 +2,16 @@
 ghost use Rattle.std.specs.Prelude.{◌≡◌, ℕ, ◌+◌, ◌<◌, ◌≤◌, ◌^◌, ◌==◌, false, None, OnOk, OnErr};
 ghost use Rattle.slab.specs.Slab.{SameValues};
 ghost use Rattle.ts_mux.specs.OwnReaders.{index_in, AreBelow, HaveOwnReaders, RemovesReader};
+ghost use Rattle.ts_mux.specs.RecentIndexes.{recent_in, AreRecent};
 
+use recent::Recent;
 use slab::Slab;
 use std::alloc::{AllocError, Global};
 use std::collections::BTreeMap;
 use ts_resp::Reader;
 
 mod reading;
+mod recent;
 mod starting;
 
 /// The open connections, by number, and their readers. A closed connection takes no memory.
@@ -19,8 +22,10 @@ pub(crate) struct OpenConnections {
     // the open connections below it, each with the index of its reader once it has sent bytes
     indexes: BTreeMap<u64, Option<usize>>,
     readers: Slab<Reader>,
+    recent: Recent,
     ghost below: { AreBelow reached indexes },
     ghost own: { HaveOwnReaders (index_in indexes) readers },
+    ghost recent_indexes: { AreRecent (recent_in recent.slots) (index_in indexes) },
 }
 
 impl OpenConnections {
@@ -37,6 +42,7 @@ impl OpenConnections {
             reached: 0,
             indexes: BTreeMap::new(alloc),
             readers: Slab::new(alloc),
+            recent: Recent::new(),
         }
     }
 
@@ -85,6 +91,7 @@ impl OpenConnections {
         ensures readers { (at : ℕ) → (at == link) ≡ false → reader_of self.new at ≡ reader_of self.old at }
         ensures gone { reader_of self.new link ≡ None }
     {
+        self.recent.clear(link);
         let index = self.indexes.remove(&link).unwrap_or(None);
         remove_reader(&mut self.readers, index);
     }

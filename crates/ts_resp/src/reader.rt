@@ -1,5 +1,5 @@
 // Reads requests from a stream that arrives in pieces.
-ghost use Rattle.std.specs.Prelude.{◌≡◌, ◌≢◌, ℕ, ◌+◌, ◌^◌, ◌<◌, ◌≤◌, List, [], ◌++◌, length, OnOk, OnErr};
+ghost use Rattle.std.specs.Prelude.{◌≡◌, ◌≢◌, ℕ, ◌+◌, ◌^◌, ◌<◌, ◌≤◌, ◌==◌, not, List, [], ◌++◌, length, OnOk, OnErr};
 ghost use Rattle.ts_spec.specs.Wire.{Then, Broken, stream_at};
 ghost use Rattle.ts_resp.specs.Reading.{stream_of, fed, unfinished, ended_at};
 ghost use Rattle.ts_resp.specs.Next.{IfRequest, UnlessRequest, OnNotYet, IfBroken};
@@ -157,6 +157,13 @@ impl Reader {
         if self.unread.is_empty() {
             shrink_spare(&mut self.unread);
         }
+    }
+
+    /// Whether it has unread bytes. Without any, `next` returns `NotYet`. Allocates nothing.
+    pub fn has_unread(&self) -> bool
+        ensures { result ≡ not (length self.now.unread == 0) }
+    {
+        !self.unread.is_empty()
     }
 
     /// The offset in the stream at which the next request starts: after `next` returned a request, the offset just

@@ -5,6 +5,7 @@ ghost use Rattle.std.specs.BTreeMap.{get};
 ghost use Rattle.ts_mux.specs.ClosedLinks.{is_closed, index_of, stream_of_link, fed_to_link};
 
 use super::OpenConnections;
+use crate::current_connection::CurrentConnection;
 use std::alloc::{AllocError, Global};
 use ts_resp::Reader;
 use ts_spec::WireLimits;
@@ -32,40 +33,19 @@ impl OpenConnections {
         ensures indexes { (at index : ℕ) → index_of self.old at ≡ Some index → index_of self.new at ≡ Some index }
         ensures reached { self.new.reached ≡ self.old.reached }
     {
+        if let Some(index) = self.recent.index_of(link) {
+            return Ok(Some(index));
+        }
         match self.indexes.get(&link).copied() {
             None => Ok(None),
-            Some(index) => {
-                let index = self.find_or_start(link, index, alloc, limits)?;
+            Some(Some(index)) => {
+                self.recent.put(CurrentConnection { link, index });
                 Ok(Some(index))
             }
-        }
-    }
-
-    // The same for an open connection, whose entry this is.
-    fn find_or_start(
-        &mut self,
-        link: u64,
-        index: Option<usize>,
-        alloc: Global,
-        limits: WireLimits,
-    ) -> Result<usize, AllocError>
-        requires open { get nat_cmp self.old.indexes link ≡ Some index }
-        requires reached { link < self.old.reached }
-        requires words { 1 ≤ limits.words }
-        requires word_bytes { 1 ≤ limits.word_bytes }
-        requires request_bytes { 1 ≤ limits.request_bytes }
-        requires line_bytes { 1 ≤ limits.line_bytes }
-        ensures index { IfOk result (λ index. get nat_cmp self.new.indexes link ≡ Some (Some index)) }
-        ensures same { (at : ℕ) → is_closed self.new at ≡ is_closed self.old at }
-        ensures streams { (at : ℕ) (more : List ℕ)
-            → stream_of_link limits self.new at more ≡ stream_of_link limits self.old at more }
-        ensures fed { (at : ℕ) → fed_to_link self.new at ≡ fed_to_link self.old at }
-        ensures indexes { (at index : ℕ) → index_of self.old at ≡ Some index → index_of self.new at ≡ Some index }
-        ensures reached { self.new.reached ≡ self.old.reached }
-    {
-        match index {
-            Some(index) => Ok(index),
-            None => self.start(link, alloc, limits),
+            Some(None) => {
+                let index = self.start(link, alloc, limits)?;
+                Ok(Some(index))
+            }
         }
     }
 

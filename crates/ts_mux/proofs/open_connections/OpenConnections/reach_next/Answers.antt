@@ -1,4 +1,4 @@
-use Rattle.std.proofs.Common.{None, Some, ◌+◌, refl, ap, arith}
+use Rattle.std.proofs.Common.{◌+◌, refl, ap, ◌∙◌, arith}
 use Rattle.ts_mux.specs.OwnReaders.{index_in, reader_at}
 use Rattle.ts_mux.proofs.ClosedLinks.{reached_next, index_next, below_any, below_same}
 use Rattle.ts_mux.proofs.OwnReaders.{own_same}
@@ -8,7 +8,7 @@ use Rattle.ts_mux.proofs.open_connections.OpenConnections.reach_next.Goals as go
 pub invariant_of-self-clause-below : goal.invariant_of-self-clause-below
 invariant_of-self-clause-below c =
     let s = c.args.self.now in
-    below_any s.reached s.indexes c.insert.new.self s.reached (s.reached + 1) (Some None) c.in-Ok.ensures.updates (omega arith) (omega arith) s.below
+    below_any s.reached s.indexes c.insert.new.self _ (s.reached + 1) _ c.in-Ok.ensures.updates (omega arith) (omega arith) s.below
 
 pub invariant_of-self-clause-own : goal.invariant_of-self-clause-own
 invariant_of-self-clause-own c =
@@ -39,3 +39,13 @@ returns-in-Err-clause-indexes c = λ at. same_indexes c.args.self.now.indexes c.
 
 pub returns-in-Err-clause-readers : goal.returns-in-Err-clause-readers
 returns-in-Err-clause-readers c = λ at. ap (reader_at c.args.self.now.readers) (same_indexes c.args.self.now.indexes c.insert.new.self c.in-Err.ensures.err at)
+
+pub invariant_of-self-clause-recent_indexes : goal.invariant_of-self-clause-recent_indexes
+invariant_of-self-clause-recent_indexes c = λ link index e.
+    let s = c.args.self.now in
+    index_next s.reached s.indexes c.insert.new.self c.in-Ok.ensures.updates s.below link ∙ s.recent_indexes link index e
+
+pub invariant_of-self-in-Err-clause-recent_indexes : goal.invariant_of-self-in-Err-clause-recent_indexes
+invariant_of-self-in-Err-clause-recent_indexes c = λ link index e.
+    let s = c.args.self.now in
+    same_indexes s.indexes c.insert.new.self c.in-Err.ensures.err link ∙ s.recent_indexes link index e

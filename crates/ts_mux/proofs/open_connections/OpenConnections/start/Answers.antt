@@ -41,3 +41,10 @@ returns-in-Ok-clause-indexes c =
     let s = c.args.self.now in
     started_indexes s.indexes c.insert.new.self c.args.link c.vacant_key-index.result c.insert_reserved.result c.requires.open c.in-Ok.ensures.updates s.readers c.reserve.new.self c.insert_reserved.new.self c.new.result
     c.reserve.ensures.rest_kept c.vacant_key-index.ensures.vacant c.vacant_key-index.ensures.value c.insert_reserved.ensures.key c.insert_reserved.ensures.updates s.own
+
+pub invariant_of-self-in-Ok-clause-recent_indexes : goal.invariant_of-self-in-Ok-clause-recent_indexes
+invariant_of-self-in-Ok-clause-recent_indexes c = λ link index e.
+    let s = c.args.self.now in
+    started_indexes s.indexes c.insert.new.self c.args.link c.vacant_key-index.result c.insert_reserved.result c.requires.open c.in-Ok.ensures.updates s.readers c.reserve.new.self c.insert_reserved.new.self c.new.result
+    c.reserve.ensures.rest_kept c.vacant_key-index.ensures.vacant c.vacant_key-index.ensures.value c.insert_reserved.ensures.key c.insert_reserved.ensures.updates s.own
+    link index (s.recent_indexes link index e)
