@@ -6,9 +6,9 @@ use Rattle.std.specs.Prelude.{IsSome, slice_index}
 use Rattle.ts_spec.specs.Wire.{FEED, SPACE}
 use Rattle.ts_mux.specs.declared.found_number.FoundNumber.TheVariants as number
 use Rattle.ts_mux.specs.declared.found_header.FoundHeader.TheVariants as header
-use Rattle.ts_mux.specs.Capture.{Then, Inside, Mode, Link, Length, Body, Transition, Goto, Whole, Wrong, MOST_LINKS, MOST_BYTES, transition, goes, with_byte, start, at_end, after_bytes, after_link, after_length, after_transition, read_on, capture_at}
-use Rattle.ts_mux.specs.Framing.{IsLink, begun_on, ended_at}
-use Rattle.ts_mux.specs.Headers.{LeadsTo, IsNumberMode, AreDigits, ended_number, IsNumber, IsWholeHeader, IsHeader}
+use Rattle.ts_mux.specs.Capture.{Then, Inside, Mode, Link, Length, Body, Transition, Goto, Wrong, MOST_LINKS, MOST_BYTES, transition, goes, with_byte, start, at_end, after_bytes, after_link, after_length, after_transition, read_on, capture_at}
+use Rattle.ts_mux.specs.Framing.{IsLink}
+use Rattle.ts_mux.specs.Headers.{LeadsTo, IsNumberMode, AreDigits, ended_number, IsNumber, IsHeader}
 use Rattle.ts_mux.proofs.CaptureLemmas.{read_on-nil, read_on-byte, body_is_whole, body_is_open}
 
 -- ---- the state after some bytes

@@ -24,11 +24,6 @@ other_reader : (old new : Slab Reading) (index : ℕ) (slot : Option Reading) �
 other_reader old new index slot updates None differs = refl
 other_reader old new index slot updates (Some at) differs = updates.others at (λ same. differs (ap (λ (i : ℕ). Some i) same))
 
--- a slab with the same readers
-pub same_reader : (old new : Slab Reading) → ((at : ℕ) → slab.get new at ≡ slab.get old at) → (o : Option ℕ) → reader_at new o ≡ reader_at old o
-same_reader old new same None = refl
-same_reader old new same (Some at) = same at
-
 pub own_same : (old new : ℕ → Option ℕ) (readers rest : Slab Reading) → ((at : ℕ) → new at ≡ old at) → ((at : ℕ) → slab.get rest at ≡ slab.get readers at)
     → HaveOwnReaders old readers → HaveOwnReaders new rest
 own_same old new readers rest same values own = record {

@@ -13,7 +13,7 @@ use Rattle.ts_resp.specs.Reading.{Reading, stream_of, fed}
 use Rattle.ts_mux.specs.OwnReaders.{index_in, reader_at, HaveOwnReaders}
 use Rattle.ts_mux.specs.Links.{stream_or, fed_in}
 use Rattle.ts_mux.proofs.ClosedLinks.{index_here, index_other}
-use Rattle.ts_mux.proofs.OwnReaders.{same_reader, start_own, start_here, start_others}
+use Rattle.ts_mux.proofs.OwnReaders.{start_own, start_here, start_others}
 
 -- room that was reserved before an update
 from_reserved : (old mid new : Slab Reading) (index found : ℕ) (slot : Option Reading) → mid ≡ record old { capacity = mid.capacity } → found ≡ index
@@ -30,10 +30,6 @@ same_values old mid kept at = ap (λ (s : Slab Reading). slab.get s at) kept
 -- the same entries
 pub same_indexes : (old new : BTreeMap ℕ (Option ℕ)) → new.entries ≡ old.entries → (at : ℕ) → index_in new at ≡ index_in old at
 same_indexes old new same at = ap (λ entries. unwrap_or (lookup (is_at (nat_cmp at)) entries) None) same
-
-pub same_readers : (old new : BTreeMap ℕ (Option ℕ)) (readers rest : Slab Reading) → ((at : ℕ) → index_in new at ≡ index_in old at)
-    → ((at : ℕ) → slab.get rest at ≡ slab.get readers at) → (at : ℕ) → reader_at rest (index_in new at) ≡ reader_at readers (index_in old at)
-same_readers old new readers rest same values at = ap (reader_at rest) (same at) ∙ same_reader readers rest values (index_in old at)
 
 -- room is reserved first, and the index is the next vacant one
 module _ (old new : BTreeMap ℕ (Option ℕ)) (link index found : ℕ) (there : get nat_cmp old link ≡ Some None) (updates : Updates nat_cmp old new link (Some (Some index))) (readers mid rest : Slab Reading) (fresh : Reading) (kept : mid ≡ record readers { capacity = mid.capacity }) (is_vacant : slab.get mid index ≡ None) (is_next : index ≡ mid.vacant_key) (takes_next : found ≡ mid.vacant_key) (reserved : slab.Updates mid rest found (Some fresh)) (own : HaveOwnReaders (index_in old) readers) where

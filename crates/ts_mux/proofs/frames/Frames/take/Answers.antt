@@ -1,4 +1,4 @@
-use Rattle.std.proofs.Common.{◌∙◌}
+use Rattle.std.proofs.Common.{◌∙◌, arith}
 use Rattle.ts_mux.proofs.FramingLemmas.{taken, not_taken}
 use Rattle.ts_mux.proofs.frames.Frames.take.Goals as goal
 
@@ -9,7 +9,7 @@ pub bytes-requires-clause-within : goal.bytes-requires-clause-within
 bytes-requires-clause-within c = c.requires.within
 
 pub pass-requires : goal.pass-requires
-pass-requires c = c.requires.within
+pass-requires c = omega (arith, c.requires.order, c.requires.within)
 
 pub returns-in_default : goal.returns-in_default
 returns-in_default c = not_taken c.args.self.now c.args.span c.requires
