@@ -1,7 +1,7 @@
 -- Frames written one after another, the last one perhaps only in part.
-use Rattle.std.proofs.Common.{◌≡◌, ℕ, ◌+◌, ◌-◌, List, [], ◌∷◌, ◌++◌, length, take, drop, refl, sym, ◌∙◌, ap, subst, append_assoc, length-append, length-drop, arith}
+use Rattle.std.proofs.Common.{◌≡◌, ℕ, ◌+◌, ◌-◌, List, [], ◌∷◌, ◌++◌, length, take, drop, refl, sym, ◌∙◌, ap, subst, append_assoc, append-nil, length-append, length-drop, arith}
 use Rattle.std.proofs.Math.Seq.{take-append-add}
-use Rattle.std.proofs.lemmas.List.{take_all, take-append-drop, take-append-le, drop-take, drop_at, length-take-le}
+use Rattle.std.proofs.lemmas.List.{take_all, take-take, take-append-drop, take-append-le, drop-take, drop-append-le, length-take-le}
 use Rattle.std.specs.Prelude.{◌≤◌, slice_range, Result, Ok, Err, OnErr}
 use Rattle.ts_io.specs.Sinks.{Grows, GrowsByPrefix}
 use Rattle.ts_io.proofs.Growth.{grows_twice}
@@ -24,15 +24,38 @@ front_after had between has first others grown front =
 
 -- ---- the header with the first bytes, then the rest
 
--- the first bytes were put at offset `end`, and then the header before them
-pub put_together : (header front old mid room : List ℕ) (start end : ℕ) → end ≤ length old → take (end + length front) mid ≡ take end old ++ front
-    → drop start room ≡ header ++ drop end mid → start + length header ≡ end → slice_range room start (end + length front) ≡ header ++ front
-put_together header front old mid room start end fits fronted written at =
-    let count : end + length front - start ≡ length header + length front = omega (arith, at) in
-    ap (λ n. take n (drop start room)) count
-    ∙ ap (take (length header + length front)) written
-    ∙ take-append-add header (drop end mid) (length front)
-    ∙ ap (λ l. header ++ l) (sym (drop-take end (length front) mid) ∙ ap (drop end) fronted ∙ drop_at (take end old) front end (length-take-le end old fits))
+-- the header was put before offset `end`
+pub header_put : (header room mid : List ℕ) (start end : ℕ) → drop start room ≡ header ++ drop end mid → start + length header ≡ end → slice_range room start end ≡ header
+header_put header room mid start end written at =
+    let count : end - start ≡ length header + 0 = omega (arith, at) in
+    ap (λ n. take n (drop start room)) count ∙ ap (take (length header + 0)) written ∙ take-append-add header (drop end mid) 0 ∙ append-nil header
+
+-- what stands before offset `end`, if the first bytes are put after it
+pub before_front : (front mid room : List ℕ) (end : ℕ) → end ≤ length mid → take (end + length front) room ≡ take end mid ++ front → take end room ≡ take end mid
+before_front front mid room end fits fronted =
+    let size : length (take end mid) ≡ end = length-take-le end mid fits in
+    sym (take-take end (end + length front) room (omega arith)) ∙ ap (take end) fronted
+    ∙ take-append-le end (take end mid) front (omega (arith, size)) ∙ take_all end (take end mid) (omega (arith, size))
+
+range_before : (room : List ℕ) (start end : ℕ) → start ≤ end → slice_range room start end ≡ drop start (take end room)
+range_before room start end within =
+    let all : start + (end - start) ≡ end = omega (arith, within) in
+    sym (drop-take start (end - start) room) ∙ ap (λ n. drop start (take n room)) all
+
+-- the header stays as the first bytes are put after it
+pub header_stays : (front mid room : List ℕ) (start end : ℕ) → start ≤ end → end ≤ length mid → take (end + length front) room ≡ take end mid ++ front
+    → slice_range room start end ≡ slice_range mid start end
+header_stays front mid room start end within fits fronted =
+    range_before room start end within ∙ ap (drop start) (before_front front mid room end fits fronted) ∙ sym (range_before mid start end within)
+
+-- and they stand together
+pub put_together : (header front mid room : List ℕ) (start end : ℕ) → start ≤ end → end ≤ length mid → slice_range mid start end ≡ header
+    → take (end + length front) room ≡ take end mid ++ front → slice_range room start (end + length front) ≡ header ++ front
+put_together header front mid room start end within fits headed fronted =
+    let size : length (take end mid) ≡ end = length-take-le end mid fits in
+    range_before room start (end + length front) (omega (arith, within)) ∙ ap (drop start) fronted
+    ∙ drop-append-le start (take end mid) front (omega (arith, within, size))
+    ∙ ap (λ l. l ++ front) (sym (range_before mid start end within) ∙ headed)
 
 pub of_length : (room bytes front : List ℕ) (start end first : ℕ) → first ≤ length bytes → slice_range room start (end + length (take first bytes)) ≡ front
     → slice_range room start (end + first) ≡ front

@@ -8,9 +8,9 @@ ghost use Rattle.ts_engine.specs.CaptureSteps.{CaptureRun, Pumped, HasCauses, Ha
 ghost use Rattle.ts_engine.specs.CaptureView.{capture_progress, frames_in, HasAnswered};
 
 use crate::capture_session::{CaptureGo, CaptureSession};
-use crate::piped::PIECE;
 use std::alloc::Global;
 use ts_db::Db;
+use ts_execution::PIECE;
 use ts_io::{Clock, Sink, Source};
 use ts_resp::WireLimits;
 use ts_words::Status;

@@ -3,7 +3,7 @@ ghost use Rattle.std.specs.Prelude.{◌≡◌, ◌+◌, ◌<◌, ◌≤◌, ◌^
 ghost use Rattle.ts_mux.specs.Muxing.{pending_items, delivered_to};
 ghost use Rattle.ts_execution.specs.Limits.{CanRead};
 
-use crate::framing::TOGETHER;
+use crate::framing::FrameWriter;
 use std::alloc::{AllocError, Global};
 use std::marker::Brand;
 use std::sync::ledger::{Blank, Ledger};
@@ -48,8 +48,7 @@ pub(crate) struct CaptureSession {
     frames: Frames,
     mux: Mux,
     room: Out,
-    // where the frame of a reply is put together
-    frame_room: [u8; TOGETHER],
+    frame_writer: FrameWriter,
     hints: Hints,
     ghost fits: { 128 ≤ length room.bytes + room.spare },
     ghost counted: { delivered_to mux ≤ frames.begin },
@@ -73,7 +72,7 @@ impl CaptureSession {
             frames: Frames::new(alloc),
             mux: Mux::new(alloc, limits),
             room,
-            frame_room: [0; TOGETHER],
+            frame_writer: FrameWriter::new(),
             hints: Hints::new(alloc),
         })
     }
@@ -172,7 +171,8 @@ impl CaptureSession {
         requires asked { pending_items self.old.mux [] ≡ [] }
         requires stands { StandsAt (frames_in self.old) span }
         requires bound { fed (frames_in self.old) < 2 ^ 64 }
-        ensures items { OnOk result ((more : List ℕ) → coming self.old (frames_of (capture_of (frames_in self.old) more))
+        ensures items { OnOk result ((more : List ℕ)
+            → coming self.old (frames_of (capture_of (frames_in self.old) more))
             ≡ coming self.new (frames_of (capture_of (frames_in self.new) more))) }
         ensures ending { OnOk result ((more : List ℕ) → ending_of (capture_of (frames_in self.old) more)
             ≡ ending_of (capture_of (frames_in self.new) more)) }

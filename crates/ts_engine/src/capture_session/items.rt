@@ -12,7 +12,6 @@ ghost use Rattle.ts_spec.specs.Text.{protocol_error_text};
 
 use super::CaptureSession;
 use crate::capture_session::CaptureGo;
-use crate::framing::write_frame;
 use std::sync::ledger::Ledger;
 use ts_db::Db;
 use ts_execution::handle_request;
@@ -146,7 +145,7 @@ impl CaptureSession {
         ensures frames { frames_in self.new ≡ frames_in self.old }
         ensures cause { WroteOrFault (K.faults out.old) (K.faults out.new) result }
     {
-        match write_frame(out, &mut self.frame_room, link, self.room.bytes()) {
+        match self.frame_writer.write(link, self.room.bytes(), out) {
             Ok(()) => None,
             Err(_) => Some(CaptureGo::WriteFault),
         }
