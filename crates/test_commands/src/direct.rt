@@ -2,11 +2,12 @@
 ghost use Rattle.std.specs.Prelude.{◌≡◌, ◌<◌};
 ghost use Rattle.ts_engine.specs.Top.{AreUsable};
 
+use crate::limits::usable;
 use crate::run::Talking;
-use crate::setting::Setting;
 use std::alloc::{AllocError, Global};
 use std::marker::Brand;
 use std::sync::ledger::{Blank, Ledger};
+use test_talks::Setting;
 use ts_engine::{Db, Go, Limits, Session, execute, read};
 use ts_io::MemClock;
 use ts_resp::{Next, Out, Reader, Word};
@@ -21,7 +22,7 @@ pub(crate) fn is_executed(
     setting: &Setting,
     own: &Talking,
 ) -> Result<bool, AllocError> {
-    let limits = setting.usable_limits();
+    let limits = usable(setting.limits);
     let found = replies::<Brand>(alloc, limits, &own.exchange.input, Blank::new(1))?;
     Ok(found.as_slice() == own.exchange.out.as_slice())
 }
@@ -80,7 +81,7 @@ pub(crate) fn goes_on(
     expected: &str,
     first: usize,
 ) -> Result<bool, AllocError> {
-    let limits = setting.usable_limits();
+    let limits = usable(setting.limits);
     let input = own.exchange.input.as_slice();
     let (early, late) = input.split_at(first.min(input.len()));
     let mut out = own.stream.ends(&own.exchange, 1, setting.takes())?.out;

@@ -32,14 +32,9 @@
 #![tactic(auto)]
 
 mod direct;
-mod expected;
-mod line;
-mod patterns;
+mod limits;
 mod run;
-mod setting;
-mod stream;
 mod talk;
-mod texts;
 
 use std::io;
 use talk::Talk;

@@ -1,11 +1,8 @@
 // Runs the program, or calls `pipe`, over devices in memory.
-use crate::expected::{End, idle_connection};
-use crate::patterns::Round;
-use crate::setting::Setting;
-use crate::stream::Stream;
-use crate::texts::Exchange;
+use crate::limits::usable;
 use std::alloc::{AllocError, Global};
 use std::io::Read;
+use test_talks::{End, Exchange, Round, Setting, Stream, idle_connection};
 use ts_engine::{Db, Outcome, pipe, top};
 use ts_io::{Ends, MemClock, MemHub, MemListener, MemSink, MemSource, Source, StdSource};
 
@@ -107,7 +104,7 @@ fn is_answered_over<S: Source + Drop>(
         &mut net,
         &mut log,
         &mut hub,
-        setting.usable_limits(),
+        usable(setting.limits),
         setting.budget.max(1),
     );
     Ok(
@@ -127,7 +124,7 @@ pub(crate) fn comes_to(
     outcome: &str,
     piece: usize,
 ) -> Result<bool, AllocError> {
-    let limits = setting.usable_limits();
+    let limits = usable(setting.limits);
     let mut ends = own.stream.ends(&own.exchange, piece, setting.takes())?;
     let mut clock = MemClock::new(Vec::from_slice(alloc, &setting.readings)?);
     let mut db = Db::new(alloc, limits);

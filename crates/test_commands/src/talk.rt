@@ -1,11 +1,8 @@
 // A talk: requests with their expected replies, and the settings they run with.
 use crate::direct::{goes_on, is_executed};
-use crate::expected::End;
-use crate::patterns::Round;
 use crate::run::{Talking, comes_to, is_answered, is_answered_in_two};
-use crate::setting::Setting;
-use crate::stream::Stream;
 use std::alloc::{AllocError, Global};
+use test_talks::{End, Round, Setting, Stream};
 
 // What a talk calls.
 #[derive(Drop)]

@@ -66,12 +66,13 @@ pub(crate) fn expand_braces(
     Ok(list)
 }
 
-// The numbers and the word, and the encoding of new series, if one is given.
+/// One of the rounds in which a talk is run: the numbers and the word of its lines, and the encoding of new series, if
+/// one is given.
 #[derive(Clone, Copy)]
-pub(crate) struct Round<'a> {
-    pub(crate) numbers: Numbers,
-    pub(crate) word: &'a str,
-    pub(crate) encoding: Option<&'a str>,
+pub struct Round<'a> {
+    pub numbers: Numbers,
+    pub word: &'a str,
+    pub encoding: Option<&'a str>,
 }
 
 impl Round<'_> {

@@ -1,17 +1,15 @@
 // The settings of a talk: limits, clock, read sizes, and the numbers and words of its lines.
 ghost use Rattle.std.specs.Prelude.{◌≤◌};
-ghost use Rattle.ts_journal.specs.Limits.{IsBounded};
-ghost use Rattle.ts_engine.specs.Top.{AreUsable};
 
 use crate::expected::{Journal, NextCall};
 use std::alloc::{AllocError, Global};
-use ts_engine::Limits;
+use ts_spec::Limits;
 
-// A range of numbers, without its end.
+/// A range of numbers, without its end.
 #[derive(Clone, Copy)]
-pub(crate) struct Numbers {
-    pub(crate) first: usize,
-    pub(crate) end: usize,
+pub struct Numbers {
+    pub first: usize,
+    pub end: usize,
 }
 
 impl Numbers {
@@ -30,42 +28,39 @@ const USUAL: [Option<&str>; 1] = [None];
 
 const BOTH: [Option<&str>; 2] = [Some("COMPRESSED"), Some("UNCOMPRESSED")];
 
-// The most arguments of a request, and the most bytes of an argument.
-const MOST_WORDS: u32 = 4_000_000_000;
-
-// The most bytes of a request.
-const MOST_BYTES: u32 = 100_000_000;
-
+/// The settings of a talk.
 #[derive(Drop)]
-pub(crate) struct Setting {
+pub struct Setting {
     // The command line, if it is not `pipe`.
     words: Option<String>,
-    limits: Limits,
-    // The budget of input bytes.
-    pub(crate) budget: u64,
-    pub(crate) readings: Vec<u64>,
-    // The numbers of the listener's calls that fail.
-    pub(crate) failing_calls: Vec<u64>,
-    pub(crate) next_call: NextCall,
-    pub(crate) journal: Journal,
-    // The most bytes per read, one run for each.
-    pub(crate) pieces: Vec<u64>,
-    // Whether the requests also come in pieces of each size.
-    pub(crate) cuts: bool,
+    /// Those given, which may be too small or too large for a run.
+    pub limits: Limits,
+    /// The budget of input bytes.
+    pub budget: u64,
+    /// The readings of the clock.
+    pub readings: Vec<u64>,
+    /// The numbers of the listener's calls that fail.
+    pub failing_calls: Vec<u64>,
+    pub next_call: NextCall,
+    pub journal: Journal,
+    /// The most bytes per read, one run for each.
+    pub pieces: Vec<u64>,
+    /// Whether the requests also come in pieces of each size.
+    pub cuts: bool,
     // The most bytes per write.
     takes: usize,
     // Whether series are created in each encoding, one run for each.
     encodings: bool,
-    // The numbers for which a part of a line, or a whole line, is repeated.
-    pub(crate) numbers: Numbers,
-    // The lengths of the word, one run for each.
-    pub(crate) lengths: Numbers,
+    /// The numbers for which a part of a line, or a whole line, is repeated.
+    pub numbers: Numbers,
+    /// The lengths of the word, one run for each.
+    pub lengths: Numbers,
 }
 
 impl Setting {
-    // The defaults: `pipe`, the usual limits, an ample budget, a clock without readings, no numbers, and one run with a
-    // word of one letter.
-    pub(crate) fn new(alloc: Global) -> Setting {
+    /// The defaults: `pipe`, the usual limits, an ample budget, a clock without readings, no numbers, and one run with a
+    /// word of one letter.
+    pub fn new(alloc: Global) -> Setting {
         Setting {
             words: None,
             limits: Limits::usual(),
@@ -83,8 +78,8 @@ impl Setting {
         }
     }
 
-    // Parses a setting, such as `keys 1`, `clock 1000,900` or `numbers 0 1001`. Returns whether it is one.
-    pub(crate) fn take(&mut self, alloc: Global, line: &str) -> Result<bool, AllocError> {
+    /// Parses a setting, such as `keys 1`, `clock 1000,900` or `numbers 0 1001`. Returns whether it is one.
+    pub fn take(&mut self, alloc: Global, line: &str) -> Result<bool, AllocError> {
         let (name, what) = line.split_once(' ').unwrap_or((line, ""));
         match name {
             "words" => self.words = Some(String::from_str(alloc, what)?),
@@ -127,13 +122,13 @@ impl Setting {
         true
     }
 
-    // The encodings of new series, one run for each.
-    pub(crate) fn encodings(&self) -> &'static [Option<&'static str>] {
+    /// The encodings of new series, one run for each.
+    pub fn encodings(&self) -> &'static [Option<&'static str>] {
         if self.encodings { &BOTH } else { &USUAL }
     }
 
-    // The arguments of the command line, separated by spaces.
-    pub(crate) fn words(&self, alloc: Global) -> Result<Vec<String>, AllocError> {
+    /// The arguments of the command line, separated by spaces.
+    pub fn words(&self, alloc: Global) -> Result<Vec<String>, AllocError> {
         let text = match &self.words {
             None => "pipe",
             Some(words) => words.as_str(),
@@ -147,27 +142,8 @@ impl Setting {
         Ok(words)
     }
 
-    // The limits, each at least 1. Those of requests are at most as large as a journal allows.
-    pub(crate) fn usable_limits(&self) -> Limits
-        ensures usable { AreUsable result }
-        ensures bounded { IsBounded result.wire }
-    {
-        let mut limits = self.limits;
-        limits.wire.words = limits.wire.words.max(1).min(MOST_WORDS);
-        limits.wire.word_bytes = limits.wire.word_bytes.max(1).min(MOST_WORDS);
-        limits.wire.request_bytes = limits.wire.request_bytes.max(1).min(MOST_BYTES);
-        limits.wire.line_bytes = limits.wire.line_bytes.max(1).min(MOST_BYTES / 2);
-        limits.keys = limits.keys.max(1);
-        limits.labels = limits.labels.max(1);
-        limits.rules = limits.rules.max(1);
-        limits.samples = limits.samples.max(1);
-        limits.empty_rows = limits.empty_rows.max(1);
-        limits.born = limits.born.max(1);
-        limits
-    }
-
-    // The most bytes per write, at least 1.
-    pub(crate) fn takes(&self) -> usize
+    /// The most bytes per write, at least 1.
+    pub fn takes(&self) -> usize
         ensures { 1 ≤ result }
     {
         self.takes.max(1)

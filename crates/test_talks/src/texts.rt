@@ -2,11 +2,11 @@
 use itoa::Buffer;
 use std::alloc::{AllocError, Global};
 
-// Requests, and the expected replies.
+/// The bytes of requests, and of the expected replies.
 #[derive(Drop)]
-pub(crate) struct Exchange {
-    pub(crate) input: Vec<u8>,
-    pub(crate) out: Vec<u8>,
+pub struct Exchange {
+    pub input: Vec<u8>,
+    pub out: Vec<u8>,
 }
 
 impl Exchange {

@@ -6,24 +6,24 @@ use crate::texts::{push_bytes, push_request};
 use std::alloc::{AllocError, Global};
 use ts_io::{Ends, Listener, MemListener, MemLog, MemSink, MemSource};
 
-// The exit status, and the bytes on standard error.
+/// The exit status, and the bytes on standard error.
 #[derive(Drop)]
-pub(crate) struct End {
+pub struct End {
     status: u8,
     line: Vec<u8>,
 }
 
 impl End {
-    // Success.
-    pub(crate) fn well(alloc: Global) -> End {
+    /// Success.
+    pub fn well(alloc: Global) -> End {
         End {
             status: 0,
             line: Vec::new(alloc),
         }
     }
 
-    // Parses an exit status and the line on standard error, such as `4 tsd: read fault`.
-    pub(crate) fn read(alloc: Global, text: &str) -> Result<Option<End>, AllocError> {
+    /// Parses an exit status and the line on standard error, such as `4 tsd: read fault`.
+    pub fn read(alloc: Global, text: &str) -> Result<Option<End>, AllocError> {
         let Some((status, text)) = text.split_once(' ') else {
             return Ok(None);
         };
@@ -35,15 +35,15 @@ impl End {
         Ok(Some(End { status, line }))
     }
 
-    // Whether a run ended with this status and these bytes on standard error.
-    pub(crate) fn is(&self, status: u8, err: &[u8]) -> bool {
+    /// Whether a run ended with this status and these bytes on standard error.
+    pub fn is(&self, status: u8, err: &[u8]) -> bool {
         status == self.status && err == self.line.as_slice()
     }
 }
 
-// Its content before the run, the content expected after it, and the numbers of its calls that fail.
+/// A journal: its content before the run, the content expected after it, and the numbers of its calls that fail.
 #[derive(Drop)]
-pub(crate) struct Journal {
+pub struct Journal {
     alloc: Global,
     had: Vec<u8>,
     has: Vec<u8>,
@@ -75,23 +75,23 @@ impl Journal {
         Ok(true)
     }
 
-    // The journal before the run.
-    pub(crate) fn log(&self) -> Result<MemLog, AllocError> {
+    /// The journal before the run.
+    pub fn log(&self) -> Result<MemLog, AllocError> {
         let had = Vec::from_slice(self.alloc, &self.had)?;
         let failing = Vec::from_slice(self.alloc, &self.failing)?;
         Ok(MemLog::new(had, failing))
     }
 
-    // Whether the journal has the expected content after the run.
-    pub(crate) fn is(&self, log: &MemLog) -> bool {
+    /// Whether the journal has the expected content after the run.
+    pub fn is(&self, log: &MemLog) -> bool {
         log.bytes() == self.has.as_slice()
     }
 }
 
-// The expected result of the next `accept`: not called; the waiting connection; or a failure, after which that
-// connection comes.
+/// The expected result of the next `accept`: not called; the waiting connection; or a failure, after which that
+/// connection comes.
 #[derive(Clone, Copy)]
-pub(crate) enum NextCall {
+pub enum NextCall {
     Unmade,
     Comes,
     Fails,
@@ -108,12 +108,13 @@ impl NextCall {
         true
     }
 
-    pub(crate) fn is_made(self) -> bool {
+    /// Whether a next call is expected.
+    pub fn is_made(self) -> bool {
         !matches!(self, NextCall::Unmade)
     }
 
-    // Whether the listener's next call has this result.
-    pub(crate) fn is_next(self, net: &mut MemListener) -> bool
+    /// Whether the listener's next call has this result.
+    pub fn is_next(self, net: &mut MemListener) -> bool
         requires { net.old.has_open_link ≡ false }
     {
         match self {
@@ -124,8 +125,8 @@ impl NextCall {
     }
 }
 
-// A connection that sends nothing.
-pub(crate) fn idle_connection(alloc: Global) -> Ends<MemSource, MemSink> {
+/// A connection that sends nothing.
+pub fn idle_connection(alloc: Global) -> Ends<MemSource, MemSink> {
     Ends {
         input: MemSource::new(Vec::new(alloc), 1, Vec::new(alloc)),
         out: MemSink::new(alloc, 1, Vec::new(alloc)),

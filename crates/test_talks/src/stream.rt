@@ -6,8 +6,9 @@ use crate::texts::Exchange;
 use std::alloc::{AllocError, Global};
 use ts_io::{Ends, MemSink, MemSource};
 
+/// What is sent over a stream of a talk, and what is expected: standard input and output, or a connection.
 #[derive(Drop)]
-pub(crate) struct Stream {
+pub struct Stream {
     alloc: Global,
     lines: Vec<Line>,
     // The numbers of the reads and the writes that fail.
@@ -16,8 +17,8 @@ pub(crate) struct Stream {
 }
 
 impl Stream {
-    // Creates one that sends and expects nothing.
-    pub(crate) fn new(alloc: Global) -> Stream {
+    /// Creates one that sends and expects nothing.
+    pub fn new(alloc: Global) -> Stream {
         Stream {
             alloc,
             lines: Vec::new(alloc),
@@ -26,8 +27,8 @@ impl Stream {
         }
     }
 
-    // Parses a line, such as `fails read 2`, or what is sent and expected. Returns whether it could.
-    pub(crate) fn take(&mut self, line: &str) -> Result<bool, AllocError> {
+    /// Parses a line, such as `fails read 2`, or what is sent and expected. Returns whether it could.
+    pub fn take(&mut self, line: &str) -> Result<bool, AllocError> {
         if let Some(numbers) = line.strip_prefix("fails read ") {
             return take_list(numbers, &mut self.reads);
         }
@@ -41,8 +42,8 @@ impl Stream {
         Ok(true)
     }
 
-    // What is sent and expected in a round.
-    pub(crate) fn exchange(&self, round: Round) -> Result<Exchange, AllocError> {
+    /// What is sent and expected in a round.
+    pub fn exchange(&self, round: Round) -> Result<Exchange, AllocError> {
         let mut exchange = Exchange::new(self.alloc);
         for line in &self.lines {
             line.add_to(self.alloc, round, &mut exchange)?;
@@ -50,8 +51,8 @@ impl Stream {
         Ok(exchange)
     }
 
-    // Its two ends, with these limits on the bytes per read and per write, at least 1.
-    pub(crate) fn ends(
+    /// Its two ends, with these limits on the bytes per read and per write, at least 1.
+    pub fn ends(
         &self,
         exchange: &Exchange,
         piece: usize,
