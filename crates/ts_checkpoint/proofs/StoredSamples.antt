@@ -88,12 +88,5 @@ some-left : (ps qs : List Point) → ps ≢ [] → ps ++ qs ≢ []
 some-left [] qs some = absurd (some refl)
 some-left (p ∷ ps) qs some = λ e. cc
 
-some-right : (ps qs : List Point) → qs ≢ [] → ps ++ qs ≢ []
-some-right [] qs some = some
-some-right (p ∷ ps) qs some = λ e. cc
-
 pub times-left : (test : ℕ → Bool) (ps qs : List Point) → at_times test ps ≢ [] → at_times test (ps ++ qs) ≢ []
 times-left test ps qs some = subst (λ (l : List Point). l ≢ []) (sym (filter-append (λ (p : Point). test p.time) ps qs)) (some-left (at_times test ps) (at_times test qs) some)
-
-pub times-right : (test : ℕ → Bool) (ps qs : List Point) → at_times test qs ≢ [] → at_times test (ps ++ qs) ≢ []
-times-right test ps qs some = subst (λ (l : List Point). l ≢ []) (sym (filter-append (λ (p : Point). test p.time) ps qs)) (some-right (at_times test ps) (at_times test qs) some)

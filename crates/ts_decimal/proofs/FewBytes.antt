@@ -26,10 +26,6 @@ pub room-step : (n d k : ℕ) → d < 10 → (n + 1) * 10 ^ (k + 1) ≤ 10 ^ 12 
 room-step n d k less room =
     omega (arith, more_places (n + 1) k, mul-le-mul_right (10 ^ k) (let e : 10 * n + d + 1 ≤ (n + 1) * 10 = omega arith in e), mul_right_comm (n + 1) 10 (10 ^ k))
 
--- the point takes a place too
-pub room-point : (n k : ℕ) → (n + 1) * 10 ^ (k + 1) ≤ 10 ^ 12 → (n + 1) * 10 ^ k ≤ 10 ^ 12
-room-point n k room = omega (arith, more_places (n + 1) k)
-
 pub small-number : (n k : ℕ) → (n + 1) * 10 ^ k ≤ 10 ^ 12 → n < 10 ^ 12
 small-number n k room = omega (arith, le-mul_of_pos_right (n + 1) (tens_positive k))
 
@@ -50,12 +46,6 @@ rounds n p k small e =
     let leads : Leads n 0 n = record { low = omega arith; high = omega arith; kept = inl refl; small = omega (arith, small) } in
     (raised n n 0 6 p k leads e).exact (within_bound n k near within)
 
-pub whole_read : (negative : Bool) (text : List ℕ) → after_digits text ≡ [] → 1 ≤ length (digits text)
-    → decimal_of negative text ≡ Some (record { negative = negative; digits = number_after 0 (digits text); up = 0; down = 0 })
-whole_read negative text none some =
-    ap (λ t. joined negative (digits text) (fraction t) (exponent (after_fraction t))) none
-    ∙ joined_read negative (digits text) [] (scale false 0) (omega (arith, some))
-
 pub pointed_read : (negative : Bool) (text part : List ℕ) → after_digits text ≡ POINT ∷ part → after_digits part ≡ [] → 1 ≤ length (digits text) + length (digits part)
     → decimal_of negative text ≡ Some (record { negative = negative; digits = number_after (number_after 0 (digits text)) (digits part); up = 0; down = length (digits part) })
 pointed_read negative text part point none some =
@@ -63,15 +53,6 @@ pointed_read negative text part point none some =
     ∙ ap (λ t. joined negative (digits text) (digits part) (exponent t)) none
     ∙ joined_read negative (digits text) (digits part) (scale false 0) some
     ∙ ap (λ n. Some (record { negative = negative; digits = number_after (number_after 0 (digits text)) (digits part); up = 0; down = n })) (add-zero (length (digits part)))
-
-pub whole_rounded : (negative : Bool) (text : List ℕ) (n : ℕ) → n ≡ number_after 0 (digits text) → n < 10 ^ 12 → after_digits text ≡ [] → 1 ≤ length (digits text)
-    → IsRounded negative (n * 1000000) (decimal_of negative text)
-whole_rounded negative text n e small none some = record {
-  decimal = record { negative = negative; digits = number_after 0 (digits text); up = 0; down = 0 };
-  is = whole_read negative text none some;
-  sign = refl;
-  nearest = ap (λ n. nearest (n * 10 ^ 6) (10 ^ 0)) (sym e) ∙ rounds n 0 6 small refl;
-}
 
 pub pointed_rounded : (negative : Bool) (text part : List ℕ) (n k : ℕ) → n ≡ number_after (number_after 0 (digits text)) (digits part) → n < 10 ^ 12
     → after_digits text ≡ POINT ∷ part → after_digits part ≡ [] → 1 ≤ length (digits text) + length (digits part) → length (digits part) + k ≡ 6

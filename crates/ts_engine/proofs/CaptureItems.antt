@@ -1,5 +1,5 @@
 -- The pending items of a capture session after one item, and after one frame.
-use Rattle.std.proofs.Common.{◌≡◌, ℕ, suc, ◌+◌, ◌<◌, ◌≤◌, Bool, true, false, not, ◌==◌, if◌then◌else◌, List, [], ◌∷◌, length, refl, sym, ◌∙◌, ap, subst, Option, None, Some, arith}
+use Rattle.std.proofs.Common.{◌≡◌, ℕ, suc, ◌<◌, ◌≤◌, Bool, true, false, not, ◌==◌, if◌then◌else◌, List, [], ◌∷◌, length, refl, sym, ◌∙◌, ap, subst, Option, None, Some, arith}
 use Rattle.ts_spec.specs.Wire.{Request}
 use Rattle.ts_spec.specs.Run.{is_quit}
 use Rattle.ts_resp.specs.declared.protocol.Protocol.{Protocol}

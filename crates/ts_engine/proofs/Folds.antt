@@ -1,7 +1,7 @@
 -- A journal that a checkpoint takes the place of.
 use Rattle.std.specs.Prelude.{All, Option, Some, Result, Ok, Err}
 use Rattle.std.specs.Io.KnownBytes.{append_known}
-use Rattle.std.proofs.Common.{◌≡◌, ◌≢◌, ◌⊎◌, inl, inr, ⊎_elim, ℕ, List, [], sym, ◌∙◌, ap, subst}
+use Rattle.std.proofs.Common.{◌≡◌, ◌⊎◌, inl, inr, ⊎_elim, ℕ, List, [], sym, ◌∙◌, ap, subst}
 use Rattle.ts_spec.specs.Encoded.{encoded, Fits}
 use Rattle.ts_spec.specs.Represents.{RepresentsState}
 use Rattle.ts_spec.specs.State.{State, empty}
@@ -18,10 +18,10 @@ use Rattle.ts_checkpoint.specs.Restoring.{IsWritten}
 use Rattle.ts_execution.specs.Checkpoints.{Writes}
 use Rattle.ts_execution.specs.declared.checkpoint.CheckpointFault.{CheckpointFault}
 use Rattle.ts_execution.specs.declared.checkpoint.CheckpointFault.TheVariants.{Log, Memory}
+use Rattle.ts_execution.specs.declared.loading.Extent.{Extent}
 use Rattle.ts_words.specs.declared.status.Status.TheVariants as status
 use Rattle.ts_engine.specs.declared.fold.FoldEnd.{FoldEnd}
 use Rattle.ts_engine.specs.declared.fold.FoldEnd.TheVariants as end
-use Rattle.ts_engine.specs.declared.opened.Extent.{Extent}
 use Rattle.ts_engine.specs.Answered.{IsOutOfMemoryOr}
 use Rattle.ts_engine.specs.Folded.{HasFold, EndsAs, status_folded}
 use Rattle.ts_engine.specs.Folding.{HasCheckpoint, Folds}

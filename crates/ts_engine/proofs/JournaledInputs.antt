@@ -1,6 +1,6 @@
 -- How an input is answered with a journal.
 use Rattle.std.specs.Prelude.{Option, Some}
-use Rattle.std.proofs.Common.{◌≡◌, ◌⊎◌, inl, inr, ◌≤◌, ◌<◌, ℕ, Bool, true, false, nat_le, if◌then◌else◌, List, length, take, refl, sym, ◌∙◌, ap, subst, arith}
+use Rattle.std.proofs.Common.{◌≡◌, ◌⊎◌, inl, inr, ◌≤◌, ◌<◌, ℕ, Bool, true, false, nat_le, if◌then◌else◌, List, length, take, refl, sym, subst, arith}
 use Rattle.std.proofs.lemmas.Bool.{le-leb, lt-leb}
 use Rattle.ts_io.specs.Causes.{Rose}
 use Rattle.ts_spec.specs.declared.wire.WireLimits.{WireLimits}
@@ -17,12 +17,10 @@ use Rattle.ts_engine.specs.declared.piped.Outcome.{Outcome}
 use Rattle.ts_engine.specs.Answered.{IsOutOfMemoryOr}
 use Rattle.ts_engine.specs.Headline.{Exchange, asks_to_quit, ending}
 use Rattle.ts_engine.specs.Journaled.{IsAnswered, HasJournalCauses, status_piped}
-use Rattle.ts_engine.specs.Journaled as run
 use Rattle.ts_engine.specs.Piping.{PipedWith, HasCausesWith}
 use Rattle.ts_engine.specs.Status.{status_of}
 use Rattle.ts_engine.specs.Top.{status_by, status_cut}
-use Rattle.ts_engine.proofs.Tops.{read-meant, write-meant}
-use Rattle.ts_engine.proofs.Unfailed.{unfailed_causes, unfailed_answered, unfailed_taken}
+use Rattle.ts_engine.proofs.Unfailed.{unfailed_answered, unfailed_taken}
 use Rattle.ts_engine.proofs.NotJournaledInputs.{unkept_of, failed_causes}
 
 -- ---- the status
@@ -47,29 +45,6 @@ piped-status limits budget bytes given below past = go (either (length bytes) bu
     go (inr more) = by true (sym (le-leb budget (length bytes) more)) (past more)
 
 -- ---- causes
-
--- the journal did not fail
-pub unfailed-causes : (e : End) (reads reads' writes writes' faults faults' : ℕ) (own own' : JournalFaults) → own.count ≡ faults → own'.count ≡ faults' → own'.failed ≡ false
-    → HasCausesWith journal_handler e reads reads' writes writes' own own' → HasJournalCauses (status_of e) reads reads' writes writes' faults faults'
-unfailed-causes e reads reads' writes writes' faults faults' own own' before after fine causes =
-    let all = unfailed_causes e reads reads' writes writes' own own' fine causes in
-    record {
-      read = λ is. all.0.read (read-meant e is);
-      write = λ is. all.0.write (write-meant e is);
-      failed = λ is. absurd (not-journal e is);
-      unread = λ other. all.0.unread (λ is. other (ap status_of is));
-      unwritten = λ other. all.0.unwritten (λ is. other (ap status_of is));
-      unfailed = λ other. sym after ∙ all.1 ∙ before;
-    }
-  where
-    not-journal : (e : End) → status_of e ≡ status.JournalFault → ⊥
-    not-journal end.Ended is = (cc)
-    not-journal (end.Truncated place) is = (cc)
-    not-journal (end.Protocol fault) is = (cc)
-    not-journal end.ReadFault is = (cc)
-    not-journal end.WriteFault is = (cc)
-    not-journal end.Memory is = (cc)
-    not-journal end.Budget is = (cc)
 
 -- the journal failed
 pub failed-causes : (e : End) (reads reads' writes writes' faults faults' : ℕ) (own own' : JournalFaults) → own.count ≡ faults → own'.count ≡ faults' → own.failed ≡ false → own'.failed ≡ true
@@ -121,13 +96,6 @@ end-by false e = ended.Answered e
 -- the fault counter of the journal, by whether it failed
 abbrev pub counts : (failed : Bool) → ℕ → JournalFaults
 counts failed n = record { failed = failed; count = n }
-
-pub causes-by : (failed : Bool) (e : End) (reads reads' writes writes' faults faults' : ℕ) → HasCausesWith journal_handler e reads reads' writes writes' (counts false faults) (counts failed faults')
-    → HasJournalCauses (run.status_of (end-by failed e)) reads reads' writes writes' faults faults'
-causes-by true e reads reads' writes writes' faults faults' causes =
-    failed-causes e reads reads' writes writes' faults faults' (counts false faults) (counts true faults') refl refl refl refl causes
-causes-by false e reads reads' writes writes' faults faults' causes =
-    unfailed-causes e reads reads' writes writes' faults faults' (counts false faults) (counts false faults') refl refl refl causes
 
 module _ (limits : WireLimits) (from : Snapshot) (fine : from.failed ≡ false) (to : Bool → Snapshot) (is : (failed : Bool) → (to failed).failed ≡ failed) (had has : List ℕ → Type 0) where
   abbrev pub exchange-by : (failed : Bool) → Exchange journaled

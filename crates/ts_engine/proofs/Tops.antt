@@ -72,25 +72,6 @@ pub not-given : (told wanted meant given : Status) → meant ≡ told → (given
 not-given told wanted meant given means (inl failed) no_write other is = no_write failed
 not-given told wanted meant given means (inr same) no_write other is = other (same ∙ means ∙ is)
 
--- the status of a failed read or write is that of this end
-pub read-meant : (e : End) → status_of e ≡ status.ReadFault → e ≡ end.ReadFault
-read-meant end.ReadFault is = refl
-read-meant end.Ended is = absurd (cc)
-read-meant (end.Truncated place) is = absurd (cc)
-read-meant (end.Protocol fault) is = absurd (cc)
-read-meant end.WriteFault is = absurd (cc)
-read-meant end.Memory is = absurd (cc)
-read-meant end.Budget is = absurd (cc)
-
-pub write-meant : (e : End) → status_of e ≡ status.WriteFault → e ≡ end.WriteFault
-write-meant end.WriteFault is = refl
-write-meant end.ReadFault is = absurd (cc)
-write-meant end.Ended is = absurd (cc)
-write-meant (end.Truncated place) is = absurd (cc)
-write-meant (end.Protocol fault) is = absurd (cc)
-write-meant end.Memory is = absurd (cc)
-write-meant end.Budget is = absurd (cc)
-
 -- ---- the arguments
 
 -- one argument does not select `keep`

@@ -21,7 +21,7 @@ use Rattle.ts_series.specs.Stored.{AreChunks, points}
 use Rattle.ts_db.specs.Restoring.{part_of_series}
 use Rattle.ts_checkpoint.specs.Checks.{FitsEncoding, can_follow}
 use Rattle.ts_checkpoint.specs.Checks as checks
-use Rattle.ts_checkpoint.specs.Loading.{OpenSeries, Restoring, series_so_far, with_open, with_samples}
+use Rattle.ts_checkpoint.specs.Loading.{OpenSeries, series_so_far, with_open, with_samples}
 use Rattle.ts_checkpoint.specs.Loading as opened
 use Rattle.ts_checkpoint.specs.Restoring.{Chunk, shown_series}
 use Rattle.ts_checkpoint.specs.Unpacked.{unpacked}

@@ -139,10 +139,6 @@ pub taken_after : (fell : Option HostFault) (result : HubStep) → result ≡ st
 taken_after None result is taken = refl
 taken_after (Some fell) result is taken = (cc)
 
-pub never_over : (fell : Option HostFault) (result : HubStep) → result ≡ step_after fell → result ≢ hub_step.Over
-never_over None result is over = (cc)
-never_over (Some fell) result is over = (cc)
-
 -- a pause settled the wake-up, or the journal failed
 pub pause_settled : {J : Type 0} (fell : Option HostFault) (content : J → Option (List ℕ)) (oldr newr : Recorder J) (oldc newc : Connections) (held : DbState) (readings : Option (List ℕ)) (out mid out' : Outgoing) (has : List ℕ → Type 0)
     (coming coming' : Option (List Step)) (taken taken' : ℕ) → Takes coming coming' (Pauses ∷ []) → taken' ≤ taken + 1 → newc.mux ≡ oldc.mux → newc.counts ≡ oldc.counts

@@ -44,19 +44,11 @@ all-repeated bs f repeats labels = by (all_hold (lent bs) labels) (repeats label
     by true h = sym (h refl)
     by false h = refl
 
-pub lent-push : (bs : List (Bor Filter)) (b : Bor Filter) → lent (bs ++ b ∷ []) ≡ lent bs ++ b.now ∷ []
-lent-push [] b = refl
-lent-push (a ∷ bs) b = ap (λ fs. a.now ∷ fs) (lent-push bs b)
-
 -- the first elements with the next one
 next : {X : Type 0} (xs : List X) (i : ℕ) (x : X) → i < length xs → x ≡ get_or xs i x → take i xs ++ x ∷ [] ≡ take (i + 1) xs
 next {X = X} xs i x inside is =
     let one : suc i ≡ i + 1 = omega arith in
     ap (λ (y : X). take i xs ++ y ∷ []) is ∙ sym (take-suc xs i x inside) ∙ ap (λ (n : ℕ). take n xs) one
-
--- one filter more is borrowed
-pub lent-next : (bs : List (Bor Filter)) (fs : List Filter) (i : ℕ) (b : Bor Filter) → i < length fs → b.now ≡ get_or fs i b.now → lent bs ≡ take i fs → lent (bs ++ b ∷ []) ≡ take (i + 1) fs
-lent-next bs fs i b inside is so-far = lent-push bs b ∙ ap (λ (gs : List Filter). gs ++ b.now ∷ []) so-far ∙ next fs i b.now inside is
 
 -- what is kept asks what the first filters ask, with the next one
 pub kept-next : (new kept all : List (Bor Filter)) (i : ℕ) (b : Bor Filter) → i < length all → b ≡ get_or all i b

@@ -1,17 +1,16 @@
 -- The ids whose labels pass a test: which they are, and their order.
 use Rattle.std.proofs.Common.{◌≡◌, ℕ, suc, ◌<◌, ◌==◌, Bool, true, false, List, [], ◌∷◌, None, Some, refl, sym, ◌∙◌, ap, arith, if◌then◌else◌, ne_eqb, eqb-true}
 use Rattle.std.proofs.lemmas.Cmp.{ranked}
-use Rattle.std.specs.Cmp.{unsigned_tied, on_equiv, nat_eq_equiv}
+use Rattle.std.specs.Cmp.{unsigned_tied}
 use Rattle.std.specs.List.Sorted.{IsStrictlySortedBy}
 use Rattle.std.proofs.lemmas.Map.Keys.{sorted_tail}
-use Rattle.std.specs.List.{AllByRecursion, All, Contains}
+use Rattle.std.specs.List.{AllByRecursion, All}
 use Rattle.std.specs.Ordering.{nat_cmp}
 use Rattle.std.specs.declared.cmp.Ordering.TheVariants.{Less}
 use Rattle.std.specs.BTreeMap.{is_at}
 use Rattle.std.specs.Map.{keys_of}
-use Rattle.std.proofs.lemmas.Map.Views.{Contains-from_any, list_any-from_Contains, All-after_first}
+use Rattle.std.proofs.lemmas.Map.Views.{All-after_first}
 use Rattle.ts_spec.specs.State.{Label}
-use Rattle.ts_sample.specs.declared.sample.Id.{Id}
 use Rattle.ts_index.specs.Index.{Labelled, labels_of, ids_where}
 use Rattle.ts_index.specs.Numbers.{AreInOrder, AreAscending, has_id, pass}
 
@@ -74,14 +73,3 @@ lower i (f ∷ es) h = (less-number i f.0 (h 0 0 (omega arith)), lower i es (λ 
 pub AreInOrder-by_keys : (es : Labelled) → IsStrictlySortedBy nat_cmp (keys_of es) → AreInOrder es
 AreInOrder-by_keys [] s = tt
 AreInOrder-by_keys (e ∷ es) s = (lower e.0 es (All-after_first nat_cmp e.0 (keys_of es) s), AreInOrder-by_keys es (sorted_tail nat_cmp e.0 (keys_of es) s))
-
-equal_ids : (x y : Id) → (x.0 == y.0) ≡ true → x ≡ y
-equal_ids x y h = ap (λ n. record { 0 = n }) (eqb-true x.0 y.0 h)
-
--- an id that is one of these is found among them
-pub has_id-from_Contains : (is : List Id) (i : Id) → Contains is i → has_id i.0 is ≡ true
-has_id-from_Contains is i h = list_any-from_Contains (on_equiv (λ (x : Id). x.0) nat_eq_equiv) i is h
-
--- and the other way round
-pub Contains-from_has_number : (is : List Id) (i : Id) → has_id i.0 is ≡ true → Contains is i
-Contains-from_has_number is i h = Contains-from_any equal_ids i is h

@@ -1,5 +1,5 @@
 -- The candidates that pass the filters.
-use Rattle.std.proofs.Common.{◌≡◌, ℕ, ◌+◌, ◌*◌, ◌≤◌, ◌==◌, ◌||◌, ◌&&◌, ◌⊎◌, inl, inr, Bool, true, false, List, [], ◌∷◌, ◌++◌, length, Option, None, Some, refl, sym, ◌∙◌, ap, subst, arith, if◌then◌else◌, eqb-true, append-nil}
+use Rattle.std.proofs.Common.{◌≡◌, ℕ, ◌+◌, ◌*◌, ◌≤◌, ◌==◌, ◌||◌, ◌&&◌, ◌⊎◌, inl, inr, Bool, true, false, List, [], ◌∷◌, ◌++◌, length, Option, None, Some, refl, sym, ◌∙◌, ap, subst, arith, if◌then◌else◌, eqb-true}
 use Rattle.std.proofs.Math.Nat.{mul-le-mul_left, mul-le-mul_right}
 use Rattle.std.specs.Prelude.{min}
 use Rattle.std.proofs.lemmas.Bool.{false≢true}
@@ -73,10 +73,6 @@ pub selected-sorted : (test : List Label → Bool) (es : Labelled) (ids new : Li
 selected-sorted test es ids new o all p s =
     same_numbers new (ids_where test es) (ascending new s (apart-permuted ids new p all.once)) (AreAscending-where test es o)
     (λ q. sym (list_any-IsPermutation (λ i. q == i.0) ids new p) ∙ all.which q ∙ sym (has_id-where test es o q))
-
--- nothing is left
-pub selected-all : (test : List Label → Bool) (es : Labelled) (ids rest : List Id) → rest ≡ [] → AreSelected test es (ids ++ rest) → AreSelected test es ids
-selected-all test es ids rest e h = subst (AreSelected test es) (ap (λ r. ids ++ r) e ∙ append-nil ids) h
 
 -- there are steps for no more than the fewest
 pub steps-start : (each all : ℕ) (is : List Id) (fewest now : ℕ) → each ≤ all → length is ≤ fewest → now + each * length is ≤ now + all * fewest

@@ -2,7 +2,6 @@
 use Rattle.std.proofs.Common.{◌≡◌, ℕ, Result, Ok, Err, List, [], ◌++◌, take, drop, sym, ◌∙◌, ap, append_assoc, append-nil, take-append-drop}
 use Rattle.ts_io.specs.Batches.{Holds}
 use Rattle.ts_io.specs.Sinks.{Grows, WriteGrows}
-use Rattle.ts_io.proofs.Growth.{grows_twice}
 
 module _ (old new : List ℕ → Type 0) where
   -- a prefix of the queue was sent
@@ -31,8 +30,3 @@ holds_gathered sent waiting more bytes joined = record { each = λ w had. (had.0
 pub write_directly : {E : Type 0} (old new : List ℕ → Type 0) (waiting bytes : List ℕ) (r : Result ℕ E) → waiting ≡ [] → WriteGrows old new r bytes → WriteGrows (Holds old waiting) (Holds new waiting) r bytes
 write_directly old new waiting bytes (Ok n) none p = holds_straight old new waiting (take n bytes) none p
 write_directly old new waiting bytes (Err e) none p = holds_still old new waiting p
-
--- a write after a call that wrote nothing
-pub write_after : {E : Type 0} (old mid new : List ℕ → Type 0) (bytes : List ℕ) (r : Result ℕ E) → Grows old mid [] → WriteGrows mid new r bytes → WriteGrows old new r bytes
-write_after old mid new bytes (Ok n) p q = grows_twice old mid new [] (take n bytes) p q
-write_after old mid new bytes (Err e) p q = grows_twice old mid new [] [] p q

@@ -1,16 +1,6 @@
 -- Accepted pieces, one after another.
-use Rattle.std.proofs.Common.{◌≡◌, ℕ, ◌+◌, ◌≤◌, min, Bool, true, false, if◌then◌else◌, List, [], ◌∷◌, ◌++◌, length, refl, arith}
-use Rattle.ts_journal.specs.Lines.{after_line, begins_number, accepted_pieces, joined, words_in}
-
--- one piece, if it is taken, and those after it
-pub joined-first : (items piece : List ℕ) (others : List (List ℕ))
-    → joined (accepted_pieces items (piece ∷ others)) ≡ (if begins_number items then piece else []) ++ joined (accepted_pieces (after_line items) others)
-joined-first items piece others = go (begins_number items)
-  where
-    go : (b : Bool) → joined (if b then piece ∷ accepted_pieces (after_line items) others else accepted_pieces (after_line items) others)
-        ≡ (if b then piece else []) ++ joined (accepted_pieces (after_line items) others)
-    go true = refl
-    go false = refl
+use Rattle.std.proofs.Common.{◌≡◌, ℕ, ◌+◌, min, Bool, true, false, if◌then◌else◌, List, ◌∷◌, length, refl, arith}
+use Rattle.ts_journal.specs.Lines.{after_line, begins_number, accepted_pieces, words_in}
 
 pub words-first : (items piece : List ℕ) (others : List (List ℕ))
     → words_in (accepted_pieces items (piece ∷ others)) ≡ (if begins_number items then min 3 (length piece) else 0) + words_in (accepted_pieces (after_line items) others)
@@ -20,7 +10,3 @@ words-first items piece others = go (begins_number items)
         ≡ (if b then min 3 (length piece) else 0) + words_in (accepted_pieces (after_line items) others)
     go true = refl
     go false = omega arith
-
-pub few-words : (b : Bool) (piece : List ℕ) → (if b then min 3 (length piece) else 0) ≤ length piece
-few-words true piece = omega arith
-few-words false piece = omega arith

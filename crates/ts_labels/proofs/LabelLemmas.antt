@@ -1,12 +1,12 @@
 -- Labels in a map, and one by one.
 use Rattle.std.proofs.Common.{◌≡◌, ℕ, zero, suc, ◌==◌, ◌&&◌, Bool, true, false, nat_eq, List, [], ◌∷◌, take, slice_get, option_map, Option, Some, None, refl, sym, ap, ◌∙◌, if◌then◌else◌}
 use Rattle.std.specs.Cmp.Lexicographic.{pointwise}
-use Rattle.std.specs.List.{AllByRecursion, IsDistinct, list_any}
+use Rattle.std.specs.List.{AllByRecursion, IsDistinct}
 use Rattle.std.specs.Map.{lookup, keys_of}
 use Rattle.indexmap.specs.IndexMap.{insert_entry}
 use Rattle.ts_spec.specs.Key.{Key, same}
 use Rattle.ts_spec.specs.State.{Label}
-use Rattle.ts_spec.specs.Filter.{value_of, is_one_of}
+use Rattle.ts_spec.specs.Filter.{value_of}
 use Rattle.ts_spec.specs.Labels.{with_label}
 use Rattle.ts_spec.proofs.Keys.{same-sym, same-true}
 use Rattle.ts_labels.specs.Labels.{AreDistinct, labelled, labels_in}
@@ -68,8 +68,3 @@ with_label-next (l ∷ ls) zero name value d e f =
     rw (n, v) refl
 with_label-next (l ∷ ls) (suc i) name value d e f =
     rw (same-sym l.name name, apart l.name name ls i d.0 e) (ap (λ xs. l ∷ xs) (with_label-next ls i name value d.1 e f))
-
--- a value is among these, where it is equal to one
-pub list_any-is_one_of : (values : List Key) (value : Key) → list_any (λ v. pointwise nat_eq v value) values ≡ is_one_of values value
-list_any-is_one_of [] value = refl
-list_any-is_one_of (v ∷ values) value = rw (straight v value, list_any-is_one_of values value) refl

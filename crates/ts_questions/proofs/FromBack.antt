@@ -1,5 +1,5 @@
 -- Emitting rows in batches from the back, and how many samples that decodes.
-use Rattle.std.proofs.Common.{◌≡◌, ℕ, zero, suc, ◌+◌, ◌-◌, ◌≤◌, List, [], ◌∷◌, ◌++◌, length, take, refl, sym, ◌∙◌, ap, subst, append_assoc, append-nil, arith}
+use Rattle.std.proofs.Common.{◌≡◌, ℕ, zero, suc, ◌+◌, ◌-◌, ◌≤◌, List, [], ◌∷◌, ◌++◌, length, take, refl, sym, ◌∙◌, ap, subst, append_assoc, arith}
 use Rattle.std.specs.Prelude.{Option, None, Some, option_map}
 use Rattle.std.proofs.lemmas.Bool.Decides.{nat_tests}
 use Rattle.ts_spec.specs.Answer.{Row, limit_rows}
@@ -44,11 +44,6 @@ module _ (has later : List Row → Type 0) (all : List Row) (left : Option ℕ) 
   -- and those of the last one
   pub emitted-last : (xs : List Row) → AreHanded has all left xs → ((before : List Row) → has before → later (before ++ limit_rows left xs)) → later all
   emitted-last xs so_far more = subst later (sym so_far.split) (more so_far.done so_far.emitted)
-
--- no more are wanted
-pub emitted-full : (has : List Row → Type 0) (all rest : List Row) (left : Option ℕ) → left ≡ Some 0 → AreHanded has all left rest → has all
-emitted-full has all rest left full so_far =
-    subst has (sym (so_far.split ∙ ap (λ (o : Option ℕ). so_far.done ++ limit_rows o rest) full ∙ append-nil so_far.done)) so_far.emitted
 
 -- ---- what was decoded
 

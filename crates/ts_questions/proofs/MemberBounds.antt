@@ -32,7 +32,3 @@ module _ (most : Key → ℕ) (ids : Keyed Id) (keys : List Key) where
 pub sum-none : (keys : List Key) → sum_by (λ (key : Key). 0) keys ≡ 0
 sum-none [] = omega arith
 sum-none (k ∷ ks) = omega (arith, sum_by-cons (λ (key : Key). 0) k ks, sum-none ks)
-
--- the selection, and then the members
-pub after-selection : (old mid new selection members : ℕ) → mid ≤ old + selection → new ≤ mid + members → new ≤ old + (selection + members)
-after-selection old mid new selection members first later = omega (arith, first, later)

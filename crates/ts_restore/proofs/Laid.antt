@@ -1,5 +1,5 @@
 -- Laid samples have the summary of their values, and six numbers are a summary exactly if they pass the test.
-use Rattle.std.proofs.Common.{◌≡◌, ℕ, suc, List, [], ◌∷◌, map, length, fold, refl, sym, ap, ◌∙◌, subst}
+use Rattle.std.proofs.Common.{◌≡◌, ℕ, suc, List, [], ◌∷◌, map, fold, refl, sym, ap, ◌∙◌, subst}
 use Rattle.std.specs.Prelude.{ℤ}
 use Rattle.ts_spec.specs.Aggregate.{Summary, nothing, summary}
 use Rattle.ts_restore.specs.Laid.{laid}
@@ -11,10 +11,6 @@ use Rattle.ts_restore.proofs.ExactSummaries.{exact-summary}
 values-laid : (from made : ℕ) (vs : List ℤ) → map (λ p. p.value) (laid from made vs) ≡ vs
 values-laid from made [] = refl
 values-laid from made (v ∷ vs) = ap (λ (ws : List ℤ). v ∷ ws) (values-laid (suc from) made vs)
-
-pub length-laid : (from made : ℕ) (vs : List ℤ) → length (laid from made vs) ≡ length vs
-length-laid from made [] = refl
-length-laid from made (v ∷ vs) = ap suc (length-laid (suc from) made vs)
 
 -- The laid values of six numbers that pass the test have them as their summary.
 pub summary-laid : (from made : ℕ) (s : Summary) → IsExact s → summary (laid from made (values_of s)) ≡ s

@@ -1,4 +1,3 @@
-use Rattle.std.specs.Prelude.{Some}
 use Rattle.std.proofs.Common.{◌≡◌, inl, inr, ⊎_elim, ◌∙◌}
 use Rattle.ts_engine.proofs.Folds.{written-checkpoint}
 use Rattle.ts_engine.proofs.folding.publish_checkpoint.Goals as goal

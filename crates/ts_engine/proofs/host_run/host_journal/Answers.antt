@@ -1,13 +1,9 @@
-use Rattle.std.specs.Prelude.{Err, Some}
 use Rattle.std.proofs.Common.{◌≡◌, ⊎_elim, take, refl, ◌∙◌, ap}
 use Rattle.ts_spec.specs.State.{empty}
 use Rattle.ts_spec.specs.declared.limits.Limits.{Limits}
-use Rattle.ts_words.specs.declared.mode.Storage.TheVariants as storage
-use Rattle.ts_engine.specs.HostEnds.{HasHostCauses, status_of}
 use Rattle.ts_engine.specs.Folding.{HasCheckpoint}
 use Rattle.ts_engine.proofs.Folds.{alike-stands}
 use Rattle.ts_engine.proofs.HostLoads.{opened-over, folded-over, unfolded-over}
-use Rattle.ts_engine.proofs.HostStatuses.{causes-unloaded, possible-loaded}
 use Rattle.ts_engine.proofs.Openings.{not-loaded}
 use Rattle.ts_engine.proofs.host_run.host_journal.Goals as goal
 
