@@ -58,8 +58,8 @@ pub struct Setting {
 }
 
 impl Setting {
-    /// The defaults: `pipe`, the usual limits, an ample budget, a clock without readings, no numbers, and one run with a
-    /// word of one letter.
+    /// The defaults: `pipe`, the usual limits, an ample budget, a clock without readings, no numbers, and one run with
+    /// a word of one letter.
     pub fn new(alloc: Global) -> Setting {
         Setting {
             words: None,
